@@ -1,0 +1,56 @@
+-- Laws of lists, over the width and the index. Assumes nothing.
+use mathlib.Core.Path.{_≡_, refl, sym, ap, _∙_}
+use mathlib.Core.List.{List, [], _∷_, _++_, append-nil}
+use Prim.Native.Nat.{ℕ, zero, suc, _+_, _≤_, _<_}
+use native.Mathlib.Nat.{add-suc, add-zero, zero-add, le-of-eq}
+use native.Mathlib.Numerals.{add-one}
+use native.Mathlib.Omega.{arith}
+use lib.ListN.{length, getD, take, drop, length-append, List·getD-append, drop-of-length-le}
+use lib.Seq.{drop-cons, take-all, take-take, getD-at, sets, sets-eq}
+use Rattle.octets.specs.Tabulate.{tabulate}
+
+-- ---- n elements of a list from place at + k on, one by one
+abbrev pub readsFrom : List ℕ → ℕ → ℕ → ℕ → List ℕ
+readsFrom s at k zero = []
+readsFrom s at k (suc n) = getD s (at + k) 0 ∷ readsFrom s at (suc k) n
+
+pub reads-from : (n k at : ℕ) (s : List ℕ) → at + k + n ≤ length s → take n (drop (at + k) s) ≡ readsFrom s at k n
+reads-from zero k at s h = refl
+reads-from (suc n) k at s h =
+    rw (drop-cons s (at + k) 0 (omega arith), ← add-suc at k) (ap (λ (l : List ℕ). getD s (at + k) 0 ∷ l) (reads-from n (suc k) at s (omega arith)))
+
+-- the same from place at on, where the code says s[at], s[at + 1], ..
+pub reads-at : (n at : ℕ) (s : List ℕ) → at + suc n ≤ length s → take (suc n) (drop at s) ≡ getD s at 0 ∷ readsFrom s at 1 n
+reads-at n at s h = rw add-zero at (reads-from (suc n) 0 at s (omega arith))
+
+-- a list of n elements, one by one
+pub whole : (n : ℕ) (l : List ℕ) → length l ≡ n → l ≡ readsFrom l 0 0 n
+whole n l h = sym (take-all n l (le-of-eq h)) ∙ reads-from n 0 0 l (omega arith)
+
+-- ---- a part of a part
+pub part-part : (m k n : ℕ) (l : List ℕ) → k + m ≤ n → take m (drop k (take n l)) ≡ take m (drop k l)
+part-part m zero n l h = take-take m n l (omega arith)
+part-part m (suc k) zero l h = absurd (omega arith)
+part-part m (suc k) (suc n) [] h = refl
+part-part m (suc k) (suc n) (x ∷ l) h = part-part m k n l (omega arith)
+
+-- ---- a list that is written over whole, element by element
+pub sets-all : (l vs : List ℕ) → length l ≡ length vs → sets l 0 vs ≡ vs
+sets-all l vs h =
+    sets-eq vs l 0 (omega arith)
+    ∙ ap (λ (t : List ℕ). vs ++ t) (drop-of-length-le l (le-of-eq (h ∙ sym (zero-add (length vs)))))
+    ∙ append-nil vs
+
+-- ---- a list by its rule
+pub length-tabulate : (f : ℕ → ℕ) (n : ℕ) → length (tabulate f n) ≡ n
+unfolding tabulate
+length-tabulate f zero = refl
+length-tabulate f (suc n) = length-append (tabulate f n) (f n ∷ []) ∙ add-one (length (tabulate f n)) ∙ ap suc (length-tabulate f n)
+
+-- element k of k + 1 + m
+pub tabulate-at : (f : ℕ → ℕ) (m k : ℕ) → getD (tabulate f (suc (m + k))) k 0 ≡ f k
+unfolding tabulate
+tabulate-at f zero k = rw zero-add (getD-at (tabulate f k) (f k) [] 0 k (length-tabulate f k))
+tabulate-at f (suc m) k =
+    let s : suc m + k ≡ suc (m + k) = omega arith in
+    rw s (List·getD-append (tabulate f (suc (m + k))) (f (suc (m + k)) ∷ []) 0 k (rw length-tabulate (omega arith)) ∙ tabulate-at f m k)

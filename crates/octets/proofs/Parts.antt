@@ -1,0 +1,60 @@
+-- Laws of a part of a list that is written, and of a part that is lent, over place and width. Assumes nothing.
+use mathlib.Core.Path.{_≡_, refl, sym, ap, _∙_}
+use mathlib.Core.Bool.{Bool, true, false, cond}
+use mathlib.Core.List.{List, [], _∷_, _++_, append-assoc}
+use Prim.Native.Nat.{ℕ, _+_, _-_, _≤_, _<_}
+use native.Mathlib.Omega.{arith}
+use borrow.Author.Tests.{le-leb, lt-leb}
+use borrow.Rule.Slice.PartMut.{putMid, post-is}
+use lib.Dec.{leb}
+use lib.ListN.{length, take, drop, length-append, length-drop}
+use lib.Seq.{take-at, drop-at, length-take-le}
+use Rattle.octets.specs.Octets.{fitsAt, writeAt}
+
+-- ---- a part that is lent, `&mut s[a..e]`, and comes back as q
+pub first-part : (s : List ℕ) (a e : ℕ) (q : List ℕ) → a ≤ e → putMid a (e - a) s q ≡ take a s ++ (q ++ drop e s)
+first-part s a e q h = ap (λ (l : List ℕ). take a s ++ (q ++ l)) (post-is a e s h)
+
+-- where w has been written from a to b, the part from b to e is lent and comes back as q
+pub next-part : (s : List ℕ) (a b e : ℕ) (w q : List ℕ) → a + length w ≡ b → b ≤ e → e ≤ length s
+    → putMid b (e - b) (take a s ++ (w ++ drop b s)) q ≡ take a s ++ ((w ++ q) ++ drop e s)
+next-part s a b e w q n h g =
+    let front : length (take a s ++ w) ≡ b = simp length-append (omega (arith, length-take-le a s (omega arith))) in
+    let rest : List ℕ = drop b s in
+    ap (λ (l : List ℕ). putMid b (e - b) l q) (sym (append-assoc (take a s) w rest))
+    ∙ ap (λ (l : List ℕ). l ++ (q ++ drop (e - b) (drop b ((take a s ++ w) ++ rest)))) (take-at (take a s ++ w) rest b front)
+    ∙ ap (λ (l : List ℕ). (take a s ++ w) ++ (q ++ drop (e - b) l)) (drop-at (take a s ++ w) rest b front)
+    ∙ ap (λ (l : List ℕ). (take a s ++ w) ++ (q ++ l)) (post-is b e s h)
+    ∙ append-assoc (take a s) w (q ++ drop e s)
+    ∙ ap (λ (l : List ℕ). take a s ++ l) (sym (append-assoc w q (drop e s)))
+
+-- ---- writing at a place
+module _ (s : List ℕ) (at : ℕ) (w : List ℕ) where
+  pub fits : at + length w ≤ length s → fitsAt s at w ≡ true
+  unfolding fitsAt
+  fits h = le-leb (at + length w) (length s) h
+
+  pub fits-not : length s < at + length w → fitsAt s at w ≡ false
+  unfolding fitsAt
+  fits-not h = lt-leb (at + length w) (length s) h
+
+  pub written : at + length w ≤ length s → writeAt s at w ≡ take at s ++ (w ++ drop (at + length w) s)
+  unfolding writeAt
+  written h = rw (fits h)
+
+  pub not-written : length s < at + length w → writeAt s at w ≡ s
+  unfolding writeAt
+  not-written h = rw (fits-not h)
+
+  -- a slice keeps its length
+  pub length-written : at + length w ≤ length s → length (writeAt s at w) ≡ length s
+  length-written h =
+      let a : length (take at s) ≡ at = length-take-le at s (omega arith) in
+      rw (written h) (simp (length-append, length-drop) (omega arith))
+
+-- what was written at a place is read there
+pub written-read : (s : List ℕ) (at : ℕ) (w : List ℕ) → at + length w ≤ length s → take (length w) (drop at (writeAt s at w)) ≡ w
+written-read s at w h =
+    let rest : List ℕ = drop (at + length w) s in
+    rw (written s at w h)
+    (ap (take (length w)) (drop-at (take at s) (w ++ rest) at (length-take-le at s (omega arith))) ∙ take-at w rest (length w) refl)
