@@ -2,10 +2,10 @@
 use mathlib.Core.Path.{_≡_, refl, sym, ap, _∙_}
 use mathlib.Core.List.{List, [], _∷_, _++_, append-nil}
 use Prim.Native.Nat.{ℕ, zero, suc, _+_, _≤_, _<_}
-use native.Mathlib.Nat.{add-suc, add-zero, zero-add, le-of-eq}
+use native.Mathlib.Nat.{add-suc, add-zero, suc-add, zero-add, le-of-eq}
 use native.Mathlib.Numerals.{add-one}
 use native.Mathlib.Omega.{arith}
-use lib.ListN.{length, getD, take, drop, length-append, List·getD-append, drop-of-length-le}
+use lib.ListN.{length, getD, take, drop, replicate, length-append, List·getD-append, drop-of-length-le}
 use lib.Seq.{drop-cons, take-all, take-take, getD-at, sets, sets-eq}
 use Rattle.octets.specs.Tabulate.{tabulate}
 
@@ -54,3 +54,8 @@ tabulate-at f zero k = rw zero-add (getD-at (tabulate f k) (f k) [] 0 k (length-
 tabulate-at f (suc m) k =
     let s : suc m + k ≡ suc (m + k) = omega arith in
     rw s (List·getD-append (tabulate f (suc (m + k))) (f (suc (m + k)) ∷ []) 0 k (rw length-tabulate (omega arith)) ∙ tabulate-at f m k)
+
+-- ---- a list of one value
+pub drop-replicate : (m n a : ℕ) → drop m (replicate (m + n) a) ≡ replicate n a
+drop-replicate zero n a = ap (λ (k : ℕ). replicate k a) (zero-add n)
+drop-replicate (suc m) n a = rw (suc-add m n) (drop-replicate m n a)

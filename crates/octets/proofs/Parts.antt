@@ -8,7 +8,7 @@ use borrow.Author.Tests.{le-leb, lt-leb}
 use borrow.Rule.Slice.PartMut.{putMid, post-is}
 use lib.Dec.{leb}
 use lib.ListN.{length, take, drop, length-append, length-drop}
-use lib.Seq.{take-at, drop-at, length-take-le}
+use lib.Seq.{take-at, drop-at, drop-append-add, length-take-le}
 use Rattle.octets.specs.Octets.{fitsAt, writeAt}
 
 -- ---- a part that is lent, `&mut s[a..e]`, and comes back as q
@@ -58,3 +58,13 @@ written-read s at w h =
     let rest : List ℕ = drop (at + length w) s in
     rw (written s at w h)
     (ap (take (length w)) (drop-at (take at s) (w ++ rest) at (length-take-le at s (omega arith))) ∙ take-at w rest (length w) refl)
+
+-- where front has been written and rest follows, w comes next
+pub write-next : (front rest w : List ℕ) (at : ℕ) → at ≡ length front → length w ≤ length rest
+    → writeAt (front ++ rest) at w ≡ (front ++ w) ++ drop (length w) rest
+write-next front rest w at e h =
+    written (front ++ rest) at w (simp length-append (omega arith))
+    ∙ ap (λ (l : List ℕ). l ++ (w ++ drop (at + length w) (front ++ rest))) (take-at front rest at (sym e))
+    ∙ ap (λ (n : ℕ). front ++ (w ++ drop (n + length w) (front ++ rest))) e
+    ∙ ap (λ (l : List ℕ). front ++ (w ++ l)) (drop-append-add front rest (length w))
+    ∙ sym (append-assoc front w (drop (length w) rest))

@@ -1,0 +1,3 @@
+pub mod Gf
+pub mod Aes
+pub mod Columns
