@@ -72,7 +72,6 @@ mixedRow a b c d = bitXor (xtime a) (bitXor (bitXor b (xtime b)) (bitXor c d))
 pub mixed-rows : (a b c d : ℕ) → _≡_ {A = List ℕ} (mixedRow a b c d ∷ mixedRow b c d a ∷ mixedRow c d a b ∷ mixedRow d a b c ∷ []) (mixColumn a b c d)
 unfolding mixColumn
 mixed-rows a b c d =
-    let a2 : ℕ = xtime a in
     let b2 : ℕ = xtime b in
     let c2 : ℕ = xtime c in
     let d2 : ℕ = xtime d in
@@ -82,4 +81,4 @@ mixed-rows a b c d =
     let r1 : bitXor a (bitXor b2 (bitXor c3 d)) ≡ mixedRow b c d a = rotated a b2 c3 d in
     let r2 : bitXor a (bitXor b (bitXor c2 d3)) ≡ mixedRow c d a b = rotated a b c2 d3 ∙ rotated b c2 d3 a in
     let r3 : bitXor a3 (bitXor b (bitXor c d2)) ≡ mixedRow d a b c = rotated a3 b c d2 ∙ rotated b c d2 a3 ∙ rotated c d2 a3 b in
-    rw (times-two a, times-three b, times-two b, times-three c, times-two c, times-three d, times-three a, times-two d) (cc)
+    simp (times-two, times-three) (cc)

@@ -2,12 +2,13 @@
 use mathlib.Core.Path.{_≡_, refl, ap, _∙_}
 use mathlib.Core.Bool.{Bool, true, false, _&&_}
 use mathlib.Core.List.{List, [], _∷_, _++_, reverse, reverseAux}
-use Prim.Native.Nat.{ℕ, zero, suc, _+_, _*_, _/_, _%_, _^_, _<_}
+use Prim.Native.Nat.{ℕ, zero, suc, _+_, _*_, _/_, _%_, _^_, _≤_, _<_}
 use native.Mathlib.Nat.{pow-suc, mod-lt, div-lt-iff-lt-mul}
 use native.Mathlib.Omega.{arith}
 use borrow.Author.Tests.{eqb-true, eq-eqb}
 use lib.Dec.{lit<, eqb}
-use lib.ListN.{length, getD, take, drop, length-append}
+use lib.ListN.{length, getD, take, drop, replicate}
+use lib.Pow.{mod-pow-add}
 use Rattle.octets.specs.declared.Word128.{Word128}
 use Rattle.octets.specs.Octets.{fromOctets, toOctets, octetsOf, wordOf, sameWord}
 
@@ -66,6 +67,25 @@ to-from (x ∷ l) o =
     let low : (x + 256 * fromOctets l) % 256 ≡ x = omega arith in
     let high : (x + 256 * fromOctets l) / 256 ≡ fromOctets l = omega arith in
     rw (low, high) (ap (λ (t : List ℕ). x ∷ t) (to-from l (o .1)))
+
+-- the low n octets are the remainder by 2^(8n)
+pub from-mod : (n x : ℕ) → fromOctets (toOctets n x) ≡ x % 2 ^ (8 * n)
+from-mod zero x = omega arith
+from-mod (suc n) x =
+    let e : 8 * suc n ≡ 8 * n + 8 = omega arith in
+    rw (from-mod n (x / 256), e, mod-pow-add x (8 * n) 8) (omega arith)
+
+-- fewer octets of the same number
+pub take-to : (m n x : ℕ) → m ≤ n → take m (toOctets n x) ≡ toOctets m x
+take-to zero n x h = refl
+take-to (suc m) zero x h = absurd (omega arith)
+take-to (suc m) (suc n) x h = ap (λ (l : List ℕ). x % 256 ∷ l) (take-to m n (x / 256) (omega arith))
+
+-- zeros above the last octet do not change the number
+pub from-zeros : (l : List ℕ) (n : ℕ) → fromOctets (l ++ replicate n 0) ≡ fromOctets l
+from-zeros [] zero = refl
+from-zeros [] (suc n) = rw (from-zeros [] n)
+from-zeros (x ∷ l) n = ap (λ (m : ℕ). x + 256 * m) (from-zeros l n)
 
 -- n octets are a number below 256^n
 pub from-lt : (n : ℕ) (l : List ℕ) → Octets l → fromOctets (take n l) < 256 ^ n

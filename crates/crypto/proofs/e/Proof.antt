@@ -1,0 +1,19 @@
+-- `crypto::e` meets its contract. Assumes nothing.
+use Rattle.crypto.specs.Crypto.{octetsBE, wordBE, eOf}
+use borrow.Author.Needs.{needs}
+use Rattle.crypto.proofs.e.Statement.{statement}
+use Rattle.crypto.proofs.e.Tie as tie
+
+returns : tie.Need-returns
+unfolding octetsBE wordBE eOf
+returns c = cc
+
+pub e-spec : {M : Type 1} → statement M
+e-spec =
+    tie.close
+    (tie.spec
+    (λ c κs. search needs)
+    (λ c κs. search needs)
+    (λ c κs. search needs)
+    (λ c κs. search needs)
+    returns)
