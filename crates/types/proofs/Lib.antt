@@ -1,0 +1,4 @@
+pub mod Codes
+pub mod Features
+pub mod Flags
+pub mod Tables
