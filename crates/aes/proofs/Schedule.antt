@@ -6,7 +6,7 @@ use Prim.Native.Nat.{ℕ, zero, suc, _+_, _-_, _*_, _/_, _%_, _≤_, _<_}
 use native.Mathlib.Nat.{zero-add, suc-add}
 use native.Mathlib.Omega.{arith}
 use lib.Dec.{eqb}
-use lib.ListN.{length, getD, take, drop, length-append}
+use lib.ListN.{length, take, drop, length-append}
 use lib.Seq.{getD-append-add, take-at, drop-at}
 use Rattle.octets.proofs.Lists.{readsFrom, whole}
 use Rattle.aes.specs.Aes.{word, xorWord, rotWord, subWord, power, rcon, nextWord, expand, keyExpansion, roundKey}

@@ -4,7 +4,7 @@ use mathlib.Core.Path.{_≡_, refl, sym, ap, ap₂, _∙_}
 use Prim.Native.Nat.{ℕ, zero, suc, _+_, _*_, _/_, _%_, _^_, _<_}
 use native.Mathlib.Nat.{mod-lt, zero-mul, one-mul}
 use native.Mathlib.Omega.{arith}
-use lib.Bits.{bitXor, differ, xor-step, xor-shr, xor-mod, xor-zero-l, xor-zero-r, xor-comm}
+use lib.Bits.{bitXor, differ, xor-step, xor-shr, xor-zero-l, xor-zero-r, xor-comm}
 use lib.Dec.{lit<}
 use mathlib.Core.List.{List, [], _∷_}
 use Rattle.aes.specs.Gf.{xtime, product, times}

@@ -1,17 +1,17 @@
 // AES-128 of FIPS 197. A state and a round key are four columns, each a number of four octets, the first octet lowest.
 ghost use mathlib.Core.Path.{_≡_};
-ghost use mathlib.Core.List.{List, [], _∷_};
+ghost use mathlib.Core.List.{[], _∷_};
 ghost use Prim.Native.Nat.{_/_, _%_};
 ghost use Rattle.aes.specs.Gf.{subByte, xtime};
 ghost use Rattle.aes.specs.Aes.{subBytes, shiftRows, mixColumn, mixColumns, addRoundKey, fullRound, keyExpansion, aes128};
 ghost use Rattle.aes.specs.Columns.{octet, four, octets, substitution, nextKey};
 
 // Four columns of a state, or four words of a round key.
-pub struct Block {
-    pub a: u32,
-    pub b: u32,
-    pub c: u32,
-    pub d: u32,
+struct Block {
+    a: u32,
+    b: u32,
+    c: u32,
+    d: u32,
 }
 
 const SBOX: [u8; 256] = [

@@ -7,7 +7,7 @@ use lib.ListN.{replicate}
 use Rattle.octets.specs.Answer.{Answer, refused, accepted, andThen}
 use Rattle.octets.specs.Octets.{octetsOf, wordOf}
 use Rattle.aes.specs.Gf.{subByte}
-use Rattle.crypto.specs.declared.LongTermKey.{LongTermKey}
+use Rattle.crypto.specs.declared.crypto.LongTermKey.{LongTermKey}
 use Rattle.crypto.specs.Crypto.{maskedOf, drawnNonce}
 use Rattle.types.specs.declared.types.Reason.the-variants.{UnspecifiedReason, Busy}
 use Rattle.types.specs.Types.{reasonOf, featureOctets, featuresOf}

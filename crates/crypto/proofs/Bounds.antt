@@ -7,7 +7,7 @@ use Rattle.octets.specs.Octets.{octetsOf, wordOf}
 use Rattle.octets.proofs.Octets.{Octets, octets-reverse, word-octets, word-low, word-high, word-back}
 use Rattle.aes.specs.Aes.{aes128}
 use Rattle.aes.proofs.Bounds.{aes128-octets}
-use Rattle.crypto.specs.declared.Nonce.{Nonce}
+use Rattle.crypto.specs.declared.crypto.Nonce.{Nonce}
 use Rattle.crypto.specs.Crypto.{octetsBE, wordBE, eOf, c1Of, s1Of}
 
 e-octets : (k x : Word128) → Octets (reverse (aes128 (octetsBE k) (octetsBE x)))

@@ -1,14 +1,14 @@
 -- A key cut to a size, half by half. Assumes nothing.
 use mathlib.Core.Path.{_≡_, refl, sym, ap, ap₂, _∙_}
-use mathlib.Core.List.{List, [], _∷_, _++_, append-assoc, append-nil}
+use mathlib.Core.List.{List, _++_, append-assoc, append-nil}
 use Prim.Native.Nat.{ℕ, _+_, _-_, _^_, _≤_, _<_}
 use native.Mathlib.Omega.{arith}
-use lib.ListN.{length, take, drop, replicate, length-append, length-replicate, replicate-append-replicate}
+use lib.ListN.{length, take, replicate, length-append, length-replicate, replicate-append-replicate}
 use lib.Seq.{take-all, take-at, drop-at, take-append-le, take-append-add}
 use Rattle.octets.specs.declared.Word128.{Word128}
 use Rattle.octets.specs.Octets.{fromOctets, toOctets, octetsOf, wordOf}
 use Rattle.octets.proofs.Octets.{length-to, from-to, take-to, from-zeros, word-back}
-use Rattle.crypto.specs.declared.LongTermKey.{LongTermKey}
+use Rattle.crypto.specs.declared.crypto.LongTermKey.{LongTermKey}
 use Rattle.crypto.specs.Crypto.{cut, maskedOf}
 
 abbrev word : ℕ → ℕ → Word128

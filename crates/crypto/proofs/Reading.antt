@@ -3,10 +3,10 @@
 use mathlib.Core.Path.{_≡_, refl, ap, _∙_}
 use mathlib.Core.List.{List, [], _∷_, _++_, reverse, append-assoc, reverse-append, reverse-reverse}
 use Prim.Native.Nat.{ℕ}
-use lib.ListN.{take, drop, replicate}
+use lib.ListN.{take, replicate}
 use Rattle.octets.specs.declared.Word128.{Word128}
 use Rattle.octets.specs.Octets.{octetsOf, wordOf}
-use Rattle.crypto.specs.declared.Nonce.{Nonce}
+use Rattle.crypto.specs.declared.crypto.Nonce.{Nonce}
 use Rattle.crypto.specs.Crypto.{octetsBE, wordBE, eOf, p1Of, p2Of, s1Of}
 
 pub p1-reading : (pres preq : List ℕ) (rat iat : ℕ) → p1Of pres preq rat iat ≡ wordOf (iat ∷ rat ∷ (preq ++ pres))

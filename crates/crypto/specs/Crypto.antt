@@ -8,9 +8,9 @@ use lib.ListN.{length, take, drop, replicate}
 use Rattle.octets.specs.declared.Word128.{Word128}
 use Rattle.octets.specs.Octets.{octetsOf, wordOf, xorOf, sameWord}
 use Rattle.aes.specs.Aes.{aes128}
-use Rattle.crypto.specs.declared.LongTermKey.{LongTermKey}
-use Rattle.crypto.specs.declared.Nonce.{Nonce}
-use Rattle.crypto.specs.declared.Confirm.{Confirm}
+use Rattle.crypto.specs.declared.crypto.LongTermKey.{LongTermKey}
+use Rattle.crypto.specs.declared.crypto.Nonce.{Nonce}
+use Rattle.crypto.specs.declared.crypto.Confirm.{Confirm}
 
 -- the 16 octets of a number, most significant first, and the number of 16 such octets
 unfoldable pub octetsBE : Word128 → List ℕ

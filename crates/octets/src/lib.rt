@@ -1,6 +1,6 @@
 // Numbers of 128 bits and the octet strings that they are read from and written to.
 ghost use mathlib.Core.Path.{_≡_};
-ghost use mathlib.Core.List.{List, [], _∷_, reverse};
+ghost use mathlib.Core.List.{[], _∷_, reverse};
 ghost use Prim.Native.Nat.{_+_, _≤_};
 ghost use lib.ListN.{length, take, drop};
 ghost use Rattle.octets.specs.Octets.{fromOctets, toOctets, octetsOf, wordOf, xorOf, sameWord, Written};

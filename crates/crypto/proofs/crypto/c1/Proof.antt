@@ -1,8 +1,8 @@
 -- `crypto::c1` meets its contract. Assumes nothing.
 use Rattle.crypto.specs.Crypto.{c1Of}
 use borrow.Author.Needs.{needs}
-use Rattle.crypto.proofs.c1.Statement.{statement}
-use Rattle.crypto.proofs.c1.Tie as tie
+use Rattle.crypto.proofs.crypto.c1.Statement.{statement}
+use Rattle.crypto.proofs.crypto.c1.Tie as tie
 
 returns : tie.Need-returns
 unfolding c1Of

@@ -1,8 +1,8 @@
 -- `crypto::e` meets its contract. Assumes nothing.
 use Rattle.crypto.specs.Crypto.{octetsBE, wordBE, eOf}
 use borrow.Author.Needs.{needs}
-use Rattle.crypto.proofs.e.Statement.{statement}
-use Rattle.crypto.proofs.e.Tie as tie
+use Rattle.crypto.proofs.crypto.e.Statement.{statement}
+use Rattle.crypto.proofs.crypto.e.Tie as tie
 
 returns : tie.Need-returns
 unfolding octetsBE wordBE eOf

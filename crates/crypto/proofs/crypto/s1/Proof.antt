@@ -9,8 +9,8 @@ use Rattle.crypto.specs.Crypto.{eOf}
 use Rattle.octets.proofs.Octets.{from-to}
 use Rattle.crypto.proofs.Reading.{s1-reading}
 use borrow.Author.Needs.{needs}
-use Rattle.crypto.proofs.s1.Statement.{statement}
-use Rattle.crypto.proofs.s1.Tie as tie
+use Rattle.crypto.proofs.crypto.s1.Statement.{statement}
+use Rattle.crypto.proofs.crypto.s1.Tie as tie
 
 low-halves : (x y : Word128) → x .low < 2 ^ 64 → y .low < 2 ^ 64 → _≡_ {A = Word128} (record { low = x .low; high = y .low }) (wordOf (take 8 (octetsOf x) ++ take 8 (octetsOf y)))
 unfolding octetsOf wordOf

@@ -1,11 +1,11 @@
 -- `crypto::LongTermKey::masked` meets its contract. Assumes nothing.
-use mathlib.Core.Path.{_≡_, sym, ap, _∙_}
-use Prim.Native.Nat.{ℕ, _^_, _<_}
+use mathlib.Core.Path.{sym}
+use Prim.Native.Nat.{_^_, _<_}
 use native.Mathlib.Omega.{arith}
 use Rattle.crypto.proofs.Cutting.{masked-whole, masked-high, masked-low}
 use borrow.Author.Needs.{needs}
-use Rattle.crypto.proofs.LongTermKey.masked.Statement.{statement}
-use Rattle.crypto.proofs.LongTermKey.masked.Tie as tie
+use Rattle.crypto.proofs.crypto.LongTermKey.masked.Statement.{statement}
+use Rattle.crypto.proofs.crypto.LongTermKey.masked.Tie as tie
 
 returns : tie.Need-returns
 returns c =

@@ -1,8 +1,8 @@
 -- `crypto::Nonce::new` meets its contract. Assumes nothing.
 use Rattle.crypto.specs.Crypto.{wordBE, nonZero, drawnNonce}
 use borrow.Author.Needs.{needs}
-use Rattle.crypto.proofs.Nonce.new.Statement.{statement}
-use Rattle.crypto.proofs.Nonce.new.Tie as tie
+use Rattle.crypto.proofs.crypto.Nonce.new.Statement.{statement}
+use Rattle.crypto.proofs.crypto.Nonce.new.Tie as tie
 
 returns : tie.Need-returns
 unfolding wordBE nonZero drawnNonce

@@ -1,14 +1,14 @@
 -- `crypto::low_octets` meets its contract. Assumes nothing.
-use mathlib.Core.Path.{_≡_, sym, ap, _∙_}
-use Prim.Native.Nat.{ℕ, _*_, _%_, _^_, _≤_, _<_}
+use mathlib.Core.Path.{_≡_, sym, _∙_}
+use Prim.Native.Nat.{ℕ, _*_, _%_, _^_, _≤_}
 use native.Mathlib.Nat.{one-mul}
 use native.Mathlib.Omega.{arith}
 use lib.Dec.{lit<}
 use lib.Pow.{pow-pos, shl-exact}
 use Rattle.octets.proofs.Octets.{from-mod}
 use borrow.Author.Needs.{needs}
-use Rattle.crypto.proofs.low_octets.Statement.{statement}
-use Rattle.crypto.proofs.low_octets.Tie as tie
+use Rattle.crypto.proofs.crypto.low_octets.Statement.{statement}
+use Rattle.crypto.proofs.crypto.low_octets.Tie as tie
 
 shifted : (n : ℕ) → n ≤ 7 → (1 * 2 ^ (8 * n)) % 2 ^ 64 ≡ 2 ^ (8 * n)
 shifted n h = shl-exact {a = 1} 1 (8 * n) 64 (lit< tt) (omega arith) ∙ one-mul (2 ^ (8 * n))

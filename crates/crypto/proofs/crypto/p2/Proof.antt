@@ -1,5 +1,5 @@
 -- `crypto::p2` meets its contract. Assumes nothing.
-use mathlib.Core.Path.{_≡_, sym, ap, ap₂, _∙_}
+use mathlib.Core.Path.{_≡_, sym, ap₂, _∙_}
 use mathlib.Core.List.{List, [], _∷_, _++_}
 use Prim.Native.Nat.{ℕ}
 use lib.ListN.{length}
@@ -7,8 +7,8 @@ use Rattle.octets.specs.Octets.{wordOf}
 use Rattle.octets.proofs.Lists.{whole}
 use Rattle.crypto.proofs.Reading.{p2-reading}
 use borrow.Author.Needs.{needs}
-use Rattle.crypto.proofs.p2.Statement.{statement}
-use Rattle.crypto.proofs.p2.Tie as tie
+use Rattle.crypto.proofs.crypto.p2.Statement.{statement}
+use Rattle.crypto.proofs.crypto.p2.Tie as tie
 
 returns : tie.Need-returns
 returns c =
