@@ -1,5 +1,5 @@
 -- The S-box as it is defined: its entries, and that the inverse inverts. Assumes nothing.
-use mathlib.Core.Path.{_≡_, ap, _∙_}
+use mathlib.Core.Path.{_≡_, refl, ap, _∙_}
 use mathlib.Core.Bool.{Bool, _||_}
 use Prim.Native.Nat.{ℕ, suc, _+_, _-_, _<_}
 use native.Mathlib.Omega.{arith}
@@ -30,3 +30,7 @@ pub inverse-rule : (k : ℕ) → 0 < k → k < 256 → times k (inverse k) ≡ 1
 unfolding inverts
 inverse-rule k p h =
     eqb→eq (times k (inverse k)) 1 (rw (ne-eqb k 0 (λ e. omega arith)) at (entry-rule inverts (replicate 256 0) all-invert k h))
+
+pub inverse-zero : inverse 0 ≡ 0
+unfolding xtime product times squares inverse
+inverse-zero = refl

@@ -1,12 +1,14 @@
 -- `octets::copy` meets its contract. Assumes nothing.
+use mathlib.Core.Path.{_∙_}
 use Prim.Native.Nat.{_-_}
 use native.Mathlib.Omega.{arith}
-use Rattle.octets.proofs.Copied.{Copied, copy-none, copy-more, copy-all}
+use lib.ListN.{length}
+use Rattle.octets.proofs.Filled.{Filled, fill-none, fill-more, fill-all, elements, copied}
 use Rattle.octets.proofs.copy.Statement.{statement}
 use Rattle.octets.proofs.copy.Tie as tie
 
 abbrev Inv-loop : tie.InvT-loop
-Inv-loop dst₀ src n i₀ dst i = Copied src dst i
+Inv-loop dst₀ src n i₀ dst i = Filled (elements src) (length src) dst i
 
 abbrev μ-loop : tie.MeasureT-loop
 μ-loop dst₀ src n i₀ dst i = n - i
@@ -17,11 +19,11 @@ copy-spec =
     (tie.spec
     Inv-loop
     μ-loop
-    (λ c. copy-none _ _ (omega arith))
+    (λ c. fill-none _ _ _ (omega arith))
     (λ c. omega arith)
     (λ c. omega arith)
     (λ c. omega arith)
     (λ c. omega arith)
-    (λ c. copy-more (c .before .before .loop .inv) (omega arith))
+    (λ c. fill-more (elements (c .before .before .before .args .src .now)) (c .before .before .loop .inv) (omega arith))
     (λ c. omega arith)
-    (λ c. copy-all (c .before .loop .inv) (omega arith)))
+    (λ c. fill-all (elements (c .before .before .args .src .now)) (c .before .loop .inv) (omega arith) ∙ copied _))
