@@ -280,6 +280,7 @@ fn sbox() -> [u8; 256]
     SBOX
 }
 
+// The octets of a column.
 fn byte0(x: u32) -> u8
     ensures { λ r. ⌜ r ≡ x % 256 ⌝ }
 {
@@ -304,6 +305,7 @@ fn byte3(x: u32) -> u8
     (x / 256 / 256 / 256 % 256) as u8
 }
 
+// A column of four octets.
 fn join(a: u8, b: u8, c: u8, d: u8) -> u32
     ensures { λ r. ⌜ four r ≡ a ∷ b ∷ c ∷ d ∷ [] ⌝ }
 {
@@ -357,6 +359,7 @@ fn rot_word(x: u32) -> u32
     x / 256 + x % 256 * 16777216
 }
 
+// MixColumns on one column: the rows of the matrix are rotations of the first.
 fn mix_column(x: u32) -> u32
     ensures { λ r. ⌜ four r ≡ mixColumn (octet 0 x) (octet 1 x) (octet 2 x) (octet 3 x) ⌝ }
 {
@@ -399,6 +402,7 @@ fn next_key(t: &[u8; 256], r: u8, k: Block) -> Block
     Block { a, b, c, d }
 }
 
+// SubBytes, ShiftRows, MixColumns and AddRoundKey.
 fn full_round(t: &[u8; 256], s: Block, k: Block) -> Block
     requires { ⌜ now t ≡ substitution ⌝ }
     ensures { λ r. ⌜ octets r ≡ fullRound (octets s) (octets k) ⌝ }
@@ -425,6 +429,7 @@ fn cipher(t: &[u8; 256], key: Block, block: Block) -> Block
     add_round_key(sub_shift(t, s), last)
 }
 
+// 16 octets as four columns, and back.
 fn load(s: [u8; 16]) -> Block
     ensures { λ r. ⌜ octets r ≡ s ⌝ }
 {

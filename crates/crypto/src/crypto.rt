@@ -98,6 +98,7 @@ pub fn e(key: Word128, plaintext_data: Word128) -> Word128
     Word128::from_be_bytes(aes::encrypt(key.to_be_bytes(), plaintext_data.to_be_bytes()))
 }
 
+// p1 = pres || preq || rat || iat, of which iat is the least significant octet.
 fn p1(pres: [u8; 7], preq: [u8; 7], rat: u8, iat: u8) -> Word128
     ensures { λ r. ⌜ r ≡ p1Of pres preq rat iat ⌝ }
 {
@@ -121,6 +122,7 @@ fn p1(pres: [u8; 7], preq: [u8; 7], rat: u8, iat: u8) -> Word128
     ])
 }
 
+// p2 = padding || ia || ra, of which the first octet of ra on the air is the least significant.
 fn p2(ia: [u8; 6], ra: [u8; 6]) -> Word128
     ensures { λ r. ⌜ r ≡ p2Of ia ra ⌝ }
 {

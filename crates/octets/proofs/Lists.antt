@@ -1,12 +1,12 @@
 -- Laws of lists, over the width and the index. Assumes nothing.
 use mathlib.Core.Path.{_≡_, refl, sym, ap, _∙_}
-use mathlib.Core.List.{List, [], _∷_, _++_, append-nil}
+use mathlib.Core.List.{List, [], _∷_}
 use Prim.Native.Nat.{ℕ, zero, suc, _+_, _≤_}
 use native.Mathlib.Nat.{add-suc, add-zero, suc-add, zero-add, le-of-eq}
 use native.Mathlib.Numerals.{add-one}
 use native.Mathlib.Omega.{arith}
-use lib.ListN.{length, getD, take, drop, replicate, length-append, List·getD-append, drop-of-length-le}
-use lib.Seq.{drop-cons, take-all, take-take, getD-at, sets, sets-eq}
+use lib.ListN.{length, getD, take, drop, replicate, length-append, List·getD-append}
+use lib.Seq.{drop-cons, take-all, take-take, getD-at}
 use Rattle.octets.specs.Tabulate.{tabulate}
 
 -- ---- n elements of a list from place at + k on, one by one
@@ -33,13 +33,6 @@ part-part m zero n l h = take-take m n l (omega arith)
 part-part m (suc k) zero l h = absurd (omega arith)
 part-part m (suc k) (suc n) [] h = refl
 part-part m (suc k) (suc n) (x ∷ l) h = part-part m k n l (omega arith)
-
--- ---- a list that is written over whole, element by element
-pub sets-all : (l vs : List ℕ) → length l ≡ length vs → sets l 0 vs ≡ vs
-sets-all l vs h =
-    sets-eq vs l 0 (omega arith)
-    ∙ ap (λ (t : List ℕ). vs ++ t) (drop-of-length-le l (le-of-eq (h ∙ sym (zero-add (length vs)))))
-    ∙ append-nil vs
 
 -- ---- a list by its rule
 pub length-tabulate : (f : ℕ → ℕ) (n : ℕ) → length (tabulate f n) ≡ n

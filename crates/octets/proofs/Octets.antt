@@ -1,13 +1,14 @@
 -- Laws of numbers and their octets, over the count. Assumes nothing.
-use mathlib.Core.Path.{_≡_, refl, ap}
-use mathlib.Core.Bool.{Bool, true, false, _&&_}
+use mathlib.Core.Path.{_≡_, refl, sym, ap, ap₂, _∙_}
+use mathlib.Core.Bool.{true, and-eq-true-iff}
 use mathlib.Core.List.{List, [], _∷_, _++_, reverse, reverseAux}
 use Prim.Native.Nat.{ℕ, zero, suc, _+_, _*_, _/_, _%_, _^_, _≤_, _<_}
 use native.Mathlib.Nat.{pow-suc, mod-lt, div-lt-iff-lt-mul}
 use native.Mathlib.Omega.{arith}
 use borrow.Author.Tests.{eqb-true, eq-eqb}
 use lib.Dec.{lit<, eqb}
-use lib.ListN.{length, getD, take, drop, replicate}
+use lib.ListN.{length, getD, take, drop, replicate, length-drop}
+use lib.Seq.{take-add, take-all, length-take-le}
 use lib.Pow.{mod-pow-add}
 use Rattle.octets.specs.declared.Word128.{Word128}
 use Rattle.octets.specs.Octets.{fromOctets, toOctets, octetsOf, wordOf, sameWord}
@@ -114,6 +115,17 @@ pub word-back : (w : Word128) → w .low < 2 ^ 64 → w .high < 2 ^ 64 → wordO
 unfolding octetsOf wordOf
 word-back w l h = rw (from-to 8 (w .low) l, from-to 8 (w .high) h)
 
+-- and 16 octets are those of their word
+half-back : (l : List ℕ) → Octets l → 8 ≤ length l → toOctets 8 (fromOctets (take 8 l)) ≡ take 8 l
+half-back l o h = ap (λ (n : ℕ). toOctets n (fromOctets (take 8 l))) (sym (length-take-le 8 l h)) ∙ to-from (take 8 l) (octets-take 8 l o)
+
+pub octets-back : (l : List ℕ) → Octets l → length l ≡ 16 → octetsOf (wordOf l) ≡ l
+unfolding octetsOf wordOf
+octets-back l o h =
+    let high : 8 ≤ length (drop 8 l) = rw length-drop (omega arith) in
+    ap₂ (λ (x y : List ℕ). x ++ y) (half-back l o (omega arith)) (half-back (drop 8 l) (octets-drop 8 l o) high)
+    ∙ sym (take-add 8 8 l) ∙ take-all 16 l (omega arith)
+
 -- octets that were read as a word have 64 bits to each half
 pub word-low : (l : List ℕ) → Octets l → wordOf l .low < 2 ^ 64
 unfolding wordOf
@@ -124,14 +136,10 @@ unfolding wordOf
 word-high l o = from-lt 8 (drop 8 l) (octets-drop 8 l o)
 
 -- ---- words are compared by their halves
-both-true : (p q : Bool) → (p && q) ≡ true → (p ≡ true) × (q ≡ true)
-both-true true q e = (refl, e)
-both-true false q e = absurd (let z : _≡_ {A = ℕ} 0 1 = cc in omega arith)
-
 pub same-word : (a b : Word128) → sameWord a b ≡ true → a ≡ b
 unfolding sameWord
 same-word a b e =
-    let h = both-true (eqb (a .low) (b .low)) (eqb (a .high) (b .high)) e in
+    let h = and-eq-true-iff (eqb (a .low) (b .low)) (eqb (a .high) (b .high)) .0 e in
     let l : a .low ≡ b .low = eqb-true (a .low) (b .low) (h .0) in
     let u : a .high ≡ b .high = eqb-true (a .high) (b .high) (h .1) in
     halves (a .low) (a .high) (b .low) (b .high) l u

@@ -14,19 +14,6 @@ use Rattle.octets.specs.Octets.{fitsAt, writeAt}
 pub first-part : (s : List ℕ) (a e : ℕ) (q : List ℕ) → a ≤ e → putMid a (e - a) s q ≡ take a s ++ (q ++ drop e s)
 first-part s a e q h = ap (λ (l : List ℕ). take a s ++ (q ++ l)) (post-is a e s h)
 
--- where w has been written from a to b, the part from b to e is lent and comes back as q
-pub next-part : (s : List ℕ) (a b e : ℕ) (w q : List ℕ) → a + length w ≡ b → b ≤ e → e ≤ length s
-    → putMid b (e - b) (take a s ++ (w ++ drop b s)) q ≡ take a s ++ ((w ++ q) ++ drop e s)
-next-part s a b e w q n h g =
-    let front : length (take a s ++ w) ≡ b = simp length-append (omega (arith, length-take-le a s (omega arith))) in
-    let rest : List ℕ = drop b s in
-    ap (λ (l : List ℕ). putMid b (e - b) l q) (sym (append-assoc (take a s) w rest))
-    ∙ ap (λ (l : List ℕ). l ++ (q ++ drop (e - b) (drop b ((take a s ++ w) ++ rest)))) (take-at (take a s ++ w) rest b front)
-    ∙ ap (λ (l : List ℕ). (take a s ++ w) ++ (q ++ drop (e - b) l)) (drop-at (take a s ++ w) rest b front)
-    ∙ ap (λ (l : List ℕ). (take a s ++ w) ++ (q ++ l)) (post-is b e s h)
-    ∙ append-assoc (take a s) w (q ++ drop e s)
-    ∙ ap (λ (l : List ℕ). take a s ++ l) (sym (append-assoc w q (drop e s)))
-
 -- ---- writing at a place
 module _ (s : List ℕ) (at : ℕ) (w : List ℕ) where
   pub fits : at + length w ≤ length s → fitsAt s at w ≡ true
