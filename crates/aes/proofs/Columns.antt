@@ -6,7 +6,7 @@ use native.Mathlib.Nat.{mod-lt}
 use native.Mathlib.Omega.{arith}
 use lib.Bits.{bitAnd, bitXor, xor-mod, xor-shr, and-mod, and-shr, and-mask, and-high, and-le-r}
 use lib.Dec.{lit<}
-use lib.ListN.{getD}
+use lib.ListN.{length, getD}
 use Rattle.octets.specs.Tabulate.{tabulate}
 use Rattle.aes.specs.Gf.{xtime, subByte}
 use Rattle.aes.specs.Aes.{subBytes, shiftRows, mixColumn, mixedAt, mixColumns}
@@ -141,6 +141,10 @@ small r h =
     ap four e ∙ joined r 0 0 0 h (lit< tt) (lit< tt) (lit< tt)
 
 -- ---- a block, column by column
+pub octets-length : (s : Block) → length (octets s) ≡ 16
+unfolding four octets
+octets-length s = refl
+
 pub mixed-columns : (s : Block)
     → mixColumn (octet 0 (s .a)) (octet 1 (s .a)) (octet 2 (s .a)) (octet 3 (s .a))
     ++ mixColumn (octet 0 (s .b)) (octet 1 (s .b)) (octet 2 (s .b)) (octet 3 (s .b))

@@ -29,7 +29,7 @@ all-invert = tt
 pub inverse-rule : (k : ℕ) → 0 < k → k < 256 → times k (inverse k) ≡ 1
 unfolding inverts
 inverse-rule k p h =
-    eqb→eq (times k (inverse k)) 1 (rw (ne-eqb k 0 (λ e. omega arith)) at (entry-rule inverts (replicate 256 0) all-invert k h))
+    eqb→eq (times k (inverse k)) 1 (rw (ne-eqb k 0 (λ e. omega arith)) at (entry-rule inverts (replicate 256 0) 0 all-invert k h))
 
 pub inverse-zero : inverse 0 ≡ 0
 unfolding xtime product times squares inverse

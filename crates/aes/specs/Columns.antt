@@ -22,15 +22,10 @@ octets s = four (s .a) ++ four (s .b) ++ four (s .c) ++ four (s .d)
 unfoldable pub substitution : List ℕ
 substitution = tabulate subByte 256
 
--- the round key after the round key k: four steps of the key expansion with the round constant {02}^n = r
+-- the round key after the round key k, word by word: four steps of the key expansion, with the round constant r
 unfoldable pub nextKey : ℕ → List ℕ → List ℕ
-nextKey r k = fourth (xorWord (word k 0) (xorWord (subWord (rotWord (word k 3))) (r ∷ 0 ∷ 0 ∷ 0 ∷ [])))
-  where
-    last : List ℕ → List ℕ → List ℕ → List ℕ
-    last w0 w1 w2 = w0 ++ w1 ++ w2 ++ xorWord (word k 3) w2
-
-    third : List ℕ → List ℕ → List ℕ
-    third w0 w1 = last w0 w1 (xorWord (word k 2) w1)
-
-    fourth : List ℕ → List ℕ
-    fourth w0 = third w0 (xorWord (word k 1) w0)
+nextKey r k =
+    let w0 = xorWord (word k 0) (xorWord (subWord (rotWord (word k 3))) (r ∷ 0 ∷ 0 ∷ 0 ∷ [])) in
+    let w1 = xorWord (word k 1) w0 in
+    let w2 = xorWord (word k 2) w1 in
+    w0 ++ w1 ++ w2 ++ xorWord (word k 3) w2

@@ -1,9 +1,9 @@
 -- Every case of the table holds: one theorem. Assumes nothing.
 use mathlib.Core.Path.{refl}
 use native.Mathlib.Omega.{arith}
-use Rattle.octets.specs.Octets.{octetsOf, wordOf, sameWord}
+use Rattle.octets.specs.Octets.{octetsOf, wordOf, sameWord, wordBE}
 use Rattle.aes.specs.Gf.{xtime, product, times, squares, inverse, bit, affineBit, fromBits, affine, subByte}
-use Rattle.crypto.specs.Crypto.{wordBE, cut, maskedOf, nonZero, drawnNonce}
+use Rattle.crypto.specs.Crypto.{cut, maskedOf, nonZero, drawnNonce}
 use Rattle.crypto.proofs.Cutting.{masked-whole}
 use Rattle.types.specs.Types.{featuresOf}
 use Rattle.util.specs.Method.{legacyMethod}

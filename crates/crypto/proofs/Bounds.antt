@@ -3,12 +3,12 @@ use mathlib.Core.Path.{_≡_}
 use mathlib.Core.List.{List, reverse}
 use Prim.Native.Nat.{ℕ, _^_, _<_}
 use Rattle.octets.specs.declared.Word128.{Word128}
-use Rattle.octets.specs.Octets.{octetsOf, wordOf}
+use Rattle.octets.specs.Octets.{octetsOf, wordOf, octetsBE, wordBE}
 use Rattle.octets.proofs.Octets.{Octets, octets-reverse, word-octets, word-low, word-high, word-back}
 use Rattle.aes.specs.Aes.{aes128}
 use Rattle.aes.proofs.Bounds.{aes128-octets}
 use Rattle.crypto.specs.declared.crypto.Nonce.{Nonce}
-use Rattle.crypto.specs.Crypto.{octetsBE, wordBE, eOf, c1Of, s1Of}
+use Rattle.crypto.specs.Crypto.{eOf, c1Of, s1Of}
 
 e-octets : (k x : Word128) → Octets (reverse (aes128 (octetsBE k) (octetsBE x)))
 unfolding octetsBE

@@ -5,9 +5,9 @@ use mathlib.Core.List.{List, [], _∷_, _++_, reverse, append-assoc, reverse-app
 use Prim.Native.Nat.{ℕ}
 use lib.ListN.{take, replicate}
 use Rattle.octets.specs.declared.Word128.{Word128}
-use Rattle.octets.specs.Octets.{octetsOf, wordOf}
+use Rattle.octets.specs.Octets.{octetsOf, wordOf, octetsBE, wordBE}
 use Rattle.crypto.specs.declared.crypto.Nonce.{Nonce}
-use Rattle.crypto.specs.Crypto.{octetsBE, wordBE, eOf, p1Of, p2Of, s1Of}
+use Rattle.crypto.specs.Crypto.{eOf, p1Of, p2Of, s1Of}
 
 pub p1-reading : (pres preq : List ℕ) (rat iat : ℕ) → p1Of pres preq rat iat ≡ wordOf (iat ∷ rat ∷ (preq ++ pres))
 unfolding p1Of wordBE

@@ -6,18 +6,11 @@ use mathlib.Core.Bool.{cond}
 use mathlib.Core.List.{List, [], _∷_, _++_, reverse}
 use lib.ListN.{length, take, drop, replicate}
 use Rattle.octets.specs.declared.Word128.{Word128}
-use Rattle.octets.specs.Octets.{octetsOf, wordOf, xorOf, sameWord}
+use Rattle.octets.specs.Octets.{octetsOf, wordOf, octetsBE, wordBE, xorOf, sameWord}
 use Rattle.aes.specs.Aes.{aes128}
 use Rattle.crypto.specs.declared.crypto.LongTermKey.{LongTermKey}
 use Rattle.crypto.specs.declared.crypto.Nonce.{Nonce}
 use Rattle.crypto.specs.declared.crypto.Confirm.{Confirm}
-
--- the 16 octets of a number, most significant first, and the number of 16 such octets
-unfoldable pub octetsBE : Word128 → List ℕ
-octetsBE w = reverse (octetsOf w)
-
-unfoldable pub wordBE : List ℕ → Word128
-wordBE l = wordOf (reverse l)
 
 -- ---- 2.2.1 Security function e: AES-128, the most significant octet first
 unfoldable pub eOf : Word128 → Word128 → Word128

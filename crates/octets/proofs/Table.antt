@@ -7,11 +7,6 @@ use native.Mathlib.Nat.{add-zero, add-suc, suc-add, zero-add, not-suc-le-zero, l
 use lib.Dec.{T}
 use lib.ListN.{length, getD}
 
--- the test passes at each entry and its place; places are counted from i
-abbrev pub allFrom : (ℕ → ℕ → Bool) → ℕ → List ℕ → Bool
-allFrom test i [] = true
-allFrom test i (x ∷ l) = test i x && allFrom test (suc i) l
-
 first : (a b : Bool) → T (a && b) → T a
 first true b t = tt
 first false b t = t
@@ -20,12 +15,18 @@ second : (a b : Bool) → T (a && b) → T b
 second true b t = t
 second false b t = absurd t
 
-entry-from : (test : ℕ → ℕ → Bool) (l : List ℕ) (i : ℕ) → T (allFrom test i l) → (k : ℕ) → k < length l → T (test (i + k) (getD l k 0))
-entry-from test [] i t k h = absurd (not-suc-le-zero h)
-entry-from test (x ∷ l) i t zero h = subst (λ (n : ℕ). T (test n x)) (sym (add-zero i)) (first (test i x) (allFrom test (suc i) l) t)
-entry-from test (x ∷ l) i t (suc k) h =
-    subst (λ (n : ℕ). T (test n (getD l k 0))) (suc-add i k ∙ sym (add-suc i k))
-    (entry-from test l (suc i) (second (test i x) (allFrom test (suc i) l) t) k (le-of-suc-le-suc h))
+module _ {A : Type 0} (test : ℕ → A → Bool) where
+  -- the test passes at each entry and its place; places are counted from i
+  abbrev pub allFrom : ℕ → List A → Bool
+  allFrom i [] = true
+  allFrom i (x ∷ l) = test i x && allFrom (suc i) l
 
-pub entry-rule : (test : ℕ → ℕ → Bool) (l : List ℕ) → T (allFrom test 0 l) → (k : ℕ) → k < length l → T (test k (getD l k 0))
-entry-rule test l t k h = subst (λ (n : ℕ). T (test n (getD l k 0))) (zero-add k) (entry-from test l 0 t k h)
+  pub entry-from : (l : List A) (d : A) (i : ℕ) → T (allFrom i l) → (k : ℕ) → k < length l → T (test (i + k) (getD l k d))
+  entry-from [] d i t k h = absurd (not-suc-le-zero h)
+  entry-from (x ∷ l) d i t zero h = subst (λ (n : ℕ). T (test n x)) (sym (add-zero i)) (first (test i x) (allFrom (suc i) l) t)
+  entry-from (x ∷ l) d i t (suc k) h =
+      subst (λ (n : ℕ). T (test n (getD l k d))) (suc-add i k ∙ sym (add-suc i k))
+      (entry-from l d (suc i) (second (test i x) (allFrom (suc i) l) t) k (le-of-suc-le-suc h))
+
+  pub entry-rule : (l : List A) (d : A) → T (allFrom 0 l) → (k : ℕ) → k < length l → T (test k (getD l k d))
+  entry-rule l d t k h = subst (λ (n : ℕ). T (test n (getD l k d))) (zero-add k) (entry-from l d 0 t k h)

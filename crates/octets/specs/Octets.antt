@@ -1,9 +1,9 @@
 -- Numbers as octet strings. An octet string runs least significant octet first, as on the air, unless a name says
--- otherwise: its reverse runs most significant octet first. Assumes nothing.
+-- otherwise (BE: most significant octet first). Assumes nothing.
 use mathlib.Core.Path.{_≡_}
 use Prim.Native.Nat.{ℕ, zero, suc, _+_, _*_, _/_, _%_}
 use mathlib.Core.Bool.{Bool, cond, _&&_}
-use mathlib.Core.List.{List, [], _∷_, _++_}
+use mathlib.Core.List.{List, [], _∷_, _++_, reverse}
 use lib.Bits.{bitXor}
 use lib.Dec.{leb, eqb}
 use lib.ListN.{length, take, drop}
@@ -30,6 +30,13 @@ octetsOf w = toOctets 8 (w .low) ++ toOctets 8 (w .high)
 -- the word of 16 octets
 unfoldable pub wordOf : List ℕ → Word128
 wordOf l = record { low = fromOctets (take 8 l); high = fromOctets (take 8 (drop 8 l)) }
+
+-- the same, most significant octet first
+unfoldable pub octetsBE : Word128 → List ℕ
+octetsBE w = reverse (octetsOf w)
+
+unfoldable pub wordBE : List ℕ → Word128
+wordBE l = wordOf (reverse l)
 
 unfoldable pub xorOf : Word128 → Word128 → Word128
 xorOf a b = record { low = bitXor (a .low) (b .low); high = bitXor (a .high) (b .high) }

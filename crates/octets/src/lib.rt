@@ -1,9 +1,9 @@
 // Numbers of 128 bits and the octet strings that they are read from and written to.
 ghost use mathlib.Core.Path.{_≡_};
-ghost use mathlib.Core.List.{[], _∷_, reverse};
+ghost use mathlib.Core.List.{[], _∷_};
 ghost use Prim.Native.Nat.{_+_, _≤_};
 ghost use lib.ListN.{length, take, drop};
-ghost use Rattle.octets.specs.Octets.{fromOctets, toOctets, octetsOf, wordOf, xorOf, sameWord, Written};
+ghost use Rattle.octets.specs.Octets.{fromOctets, toOctets, octetsOf, wordOf, octetsBE, wordBE, xorOf, sameWord, Written};
 
 // A number of 128 bits: `low + 2^64 * high`.
 pub struct Word128 {
@@ -49,7 +49,7 @@ impl Word128 {
 
     // From 16 octets, most significant first.
     pub fn from_be_bytes(b: [u8; 16]) -> Word128
-        ensures { λ r. ⌜ r ≡ wordOf (reverse b) ⌝ }
+        ensures { λ r. ⌜ r ≡ wordBE b ⌝ }
     {
         let low = join(b[15], b[14], b[13], b[12], b[11], b[10], b[9], b[8]);
         let high = join(b[7], b[6], b[5], b[4], b[3], b[2], b[1], b[0]);
@@ -58,7 +58,7 @@ impl Word128 {
 
     // To 16 octets, most significant first.
     pub fn to_be_bytes(self) -> [u8; 16]
-        ensures { λ r. ⌜ r ≡ reverse (octetsOf self) ⌝ }
+        ensures { λ r. ⌜ r ≡ octetsBE self ⌝ }
     {
         let l = split(self.low);
         let h = split(self.high);

@@ -35,14 +35,14 @@ io-back NoInputNoOutput = refl
 io-back KeyboardDisplay = refl
 
 pub io-same : (v : ℕ) (io : IoCapabilities) → ioOf v ≡ accepted io → ioCode io ≡ v
-io-same v io e = code-read ioCode 0 ios refl 5 v e ∙ zero-add v
+io-same v io e = code-read ioCode 0 ios tt 5 v e ∙ zero-add v
 
 -- ---- reasons
 
 -- 0x01 to 0x10 are written again as they were read
 pub reason-same : (v : ℕ) → 1 ≤ v → v ≤ 16 → reasonCode (reasonOf v) ≡ v
 reason-same zero a b = absurd (not-suc-le-zero a)
-reason-same (suc v) a b = code-at reasonCode 1 reasons refl UnspecifiedReason v b ∙ one-add v
+reason-same (suc v) a b = code-at reasonCode 1 reasons tt UnspecifiedReason v b ∙ one-add v
 
 -- all else is written as an unspecified reason
 pub reason-other : (v : ℕ) → (1 ≤ v → v ≤ 16 → ⊥) → reasonCode (reasonOf v) ≡ 8
@@ -71,7 +71,7 @@ command-back KeypressNotification = refl
 
 pub command-same : (v : ℕ) (c : Command) → commandOf v ≡ accepted c → commandCode c ≡ v
 command-same zero c e = absurd (refused≢accepted e)
-command-same (suc v) c e = code-read commandCode 1 commands refl 2 v e ∙ one-add v
+command-same (suc v) c e = code-read commandCode 1 commands tt 2 v e ∙ one-add v
 
 -- ---- the OOB data flag
 
@@ -84,4 +84,4 @@ oob-back NotPresent = refl
 oob-back Present = refl
 
 pub oob-same : (v : ℕ) (o : UseOutOfBand) → oobOf v ≡ accepted o → oobCode o ≡ v
-oob-same v o e = code-read oobCode 0 oobs refl 5 v e ∙ zero-add v
+oob-same v o e = code-read oobCode 0 oobs tt 5 v e ∙ zero-add v

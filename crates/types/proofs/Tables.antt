@@ -1,14 +1,13 @@
 -- Codes that stand for the entries of a list: what is past its end, and that an entry has the code of its place. Assumes nothing.
 use mathlib.Core.Path.{_≡_, refl, sym, ap, _∙_}
 use mathlib.Core.List.{List, [], _∷_, map}
-use mathlib.Core.Bool.{Bool, true, _&&_, and-eq-true-iff}
-use Prim.Native.Nat.{ℕ, zero, suc, _+_, _≤_, _<_, zero-le}
-use native.Mathlib.Nat.{add-zero, add-suc, suc-add, zero-add, le-of-suc-le-suc, not-suc-le-zero}
+use Prim.Native.Nat.{ℕ, zero, suc, _+_, _≤_, _<_, zero-le, suc-le-suc}
+use native.Mathlib.Nat.{add-zero, zero-add}
 use native.Mathlib.Omega.{arith}
 use lib.ListN.{length, getD, List·getD-eq-default}
-use lib.Dec.{eqb}
-use borrow.Author.Tests.{eqb-true}
+use lib.Dec.{T, eqb, eqb→eq}
 use Rattle.octets.specs.Answer.{Answer, refused, accepted}
+use Rattle.octets.proofs.Table.{allFrom, entry-from}
 
 -- v is none of the n numbers from k on, as the last arm of a `match` on them knows it
 abbrev pub Apart : ℕ → ℕ → ℕ → Type 0
@@ -31,26 +30,21 @@ pub refused≢accepted : {A : Type 0} {n : ℕ} {a : A} → _≡_ {A = Answer A}
 refused≢accepted e = let z : _≡_ {A = ℕ} 0 1 = cc in omega arith
 
 -- the entries have the codes from k on, in order
-abbrev pub inOrder : {A : Type 0} → (A → ℕ) → ℕ → List A → Bool
-inOrder code k [] = true
-inOrder code k (a ∷ l) = eqb (code a) k && inOrder code (suc k) l
+abbrev pub InOrder : {A : Type 0} → (A → ℕ) → ℕ → List A → Type 0
+InOrder code k l = T (allFrom (λ i a. eqb (code a) i) k l)
 
-module _ {A : Type 0} (code : A → ℕ) where
-  first : (k : ℕ) (a : A) (l : List A) → inOrder code k (a ∷ l) ≡ true → code a ≡ k
-  first k a l h = eqb-true (code a) k (and-eq-true-iff (eqb (code a) k) (inOrder code (suc k) l) .0 h .0)
-
-  later : (k : ℕ) (a : A) (l : List A) → inOrder code k (a ∷ l) ≡ true → inOrder code (suc k) l ≡ true
-  later k a l h = and-eq-true-iff (eqb (code a) k) (inOrder code (suc k) l) .0 h .1
-
+module _ {A : Type 0} (code : A → ℕ) (k : ℕ) (l : List A) (h : InOrder code k l) where
   -- the entry at place i has the code k + i
-  pub code-at : (k : ℕ) (l : List A) → inOrder code k l ≡ true → (d : A) (i : ℕ) → i < length l → code (getD l i d) ≡ k + i
-  code-at k [] h d i b = absurd (not-suc-le-zero b)
-  code-at k (a ∷ l) h d zero b = first k a l h ∙ sym (add-zero k)
-  code-at k (a ∷ l) h d (suc i) b = code-at (suc k) l (later k a l h) d i (le-of-suc-le-suc b) ∙ suc-add k i ∙ sym (add-suc k i)
+  pub code-at : (d : A) (i : ℕ) → i < length l → code (getD l i d) ≡ k + i
+  code-at d i b = eqb→eq (code (getD l i d)) (k + i) (entry-from (λ i a. eqb (code a) i) l d k h i b)
 
-  -- and so has what is read at place i
-  pub code-read : (k : ℕ) (l : List A) → inOrder code k l ≡ true
-      → (n i : ℕ) {a : A} → getD (map accepted l) i (refused n) ≡ accepted a → code a ≡ k + i
-  code-read k [] h n i e = absurd (refused≢accepted e)
-  code-read k (b ∷ l) h n zero {a} e = let p : a ≡ b = cc in ap code p ∙ first k b l h ∙ sym (add-zero k)
-  code-read k (b ∷ l) h n (suc i) e = code-read (suc k) l (later k b l h) n i e ∙ suc-add k i ∙ sym (add-suc k i)
+-- what is read at place i is the entry there
+read-at : {A : Type 0} (l : List A) (n i : ℕ) {a : A} → getD (map accepted l) i (refused n) ≡ accepted a → (i < length l) × (getD l i a ≡ a)
+read-at [] n i e = absurd (refused≢accepted e)
+read-at (b ∷ l) n zero {a} e = (suc-le-suc zero-le, cc)
+read-at (b ∷ l) n (suc i) e = let r = read-at l n i e in (suc-le-suc (r .0), r .1)
+
+-- and so it has the code k + i
+pub code-read : {A : Type 0} (code : A → ℕ) (k : ℕ) (l : List A) → InOrder code k l
+    → (n i : ℕ) {a : A} → getD (map accepted l) i (refused n) ≡ accepted a → code a ≡ k + i
+code-read code k l h n i {a} e = let r = read-at l n i e in ap code (sym (r .1)) ∙ code-at code k l h a i (r .0)

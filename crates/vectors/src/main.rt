@@ -1,6 +1,7 @@
 // Published sample data, run through the library: what came, and whether it is right. The expected values are those of
 // FIPS 197 (appendices A.1, B and C.1), SP 800-38A (F.1.1) and Core Specification Vol 3 Part H (2.2.3 and 2.2.4), as
 // those documents print them: numbers of 128 bits, here in two halves, the more significant first.
+ghost use Prim.Native.Nat.{_≤_};
 use crypto::Nonce;
 use libc::STDOUT_FILENO;
 use octets::Word128;
@@ -11,7 +12,9 @@ fn write_word(w: Word128) {
 }
 
 // One line for a sample, and whether it is right: 1, else 0.
-fn sample(name: &[u8], came: Word128, high: u64, low: u64) -> u64 {
+fn sample(name: &[u8], came: Word128, high: u64, low: u64) -> u64
+    ensures { λ r. ⌜ r ≤ 1 ⌝ }
+{
     let expected = Word128 { low, high };
     io::write_all(STDOUT_FILENO, name);
     write_word(came);
@@ -31,93 +34,102 @@ fn octets_of(high: u64, low: u64) -> [u8; 16] {
     Word128 { low, high }.to_be_bytes()
 }
 
-// The number whose octets stand at a place of the key schedule.
-fn words_at(w: [u8; 176], round: usize) -> Word128 {
-    let at = round % 11 * 16;
-    Word128::from_be_bytes(octets::read_word(&w, at).to_le_bytes())
+// The four words of a round of the key schedule.
+fn words_of(w: [u8; 176], round: usize) -> Word128
+    requires { ⌜ round ≤ 10 ⌝ }
+{
+    Word128::from_be_bytes(octets::read_word(&w, 16 * round).to_le_bytes())
 }
 
 // FIPS 197, appendix A.1: the key schedule, four words to a line.
-fn key_expansion_1(w: [u8; 176]) -> u64 {
+fn key_expansion_1(w: [u8; 176]) -> u64
+    ensures { λ r. ⌜ r ≤ 4 ⌝ }
+{
     let a = sample(
         b"FIPS 197 A.1 w[0..3]   ",
-        words_at(w, 0),
+        words_of(w, 0),
         0x2b7e151628aed2a6,
         0xabf7158809cf4f3c,
     );
     let b = sample(
         b"FIPS 197 A.1 w[4..7]   ",
-        words_at(w, 1),
+        words_of(w, 1),
         0xa0fafe1788542cb1,
         0x23a339392a6c7605,
     );
     let c = sample(
         b"FIPS 197 A.1 w[8..11]  ",
-        words_at(w, 2),
+        words_of(w, 2),
         0xf2c295f27a96b943,
         0x5935807a7359f67f,
     );
     let d = sample(
         b"FIPS 197 A.1 w[12..15] ",
-        words_at(w, 3),
+        words_of(w, 3),
         0x3d80477d4716fe3e,
         0x1e237e446d7a883b,
     );
-    a % 2 + b % 2 + c % 2 + d % 2
+    a + b + c + d
 }
 
-fn key_expansion_2(w: [u8; 176]) -> u64 {
+fn key_expansion_2(w: [u8; 176]) -> u64
+    ensures { λ r. ⌜ r ≤ 4 ⌝ }
+{
     let a = sample(
         b"FIPS 197 A.1 w[16..19] ",
-        words_at(w, 4),
+        words_of(w, 4),
         0xef44a541a8525b7f,
         0xb671253bdb0bad00,
     );
     let b = sample(
         b"FIPS 197 A.1 w[20..23] ",
-        words_at(w, 5),
+        words_of(w, 5),
         0xd4d1c6f87c839d87,
         0xcaf2b8bc11f915bc,
     );
     let c = sample(
         b"FIPS 197 A.1 w[24..27] ",
-        words_at(w, 6),
+        words_of(w, 6),
         0x6d88a37a110b3efd,
         0xdbf98641ca0093fd,
     );
     let d = sample(
         b"FIPS 197 A.1 w[28..31] ",
-        words_at(w, 7),
+        words_of(w, 7),
         0x4e54f70e5f5fc9f3,
         0x84a64fb24ea6dc4f,
     );
-    a % 2 + b % 2 + c % 2 + d % 2
+    a + b + c + d
 }
 
-fn key_expansion_3(w: [u8; 176]) -> u64 {
+fn key_expansion_3(w: [u8; 176]) -> u64
+    ensures { λ r. ⌜ r ≤ 3 ⌝ }
+{
     let a = sample(
         b"FIPS 197 A.1 w[32..35] ",
-        words_at(w, 8),
+        words_of(w, 8),
         0xead27321b58dbad2,
         0x312bf5607f8d292f,
     );
     let b = sample(
         b"FIPS 197 A.1 w[36..39] ",
-        words_at(w, 9),
+        words_of(w, 9),
         0xac7766f319fadc21,
         0x28d12941575c006e,
     );
     let c = sample(
         b"FIPS 197 A.1 w[40..43] ",
-        words_at(w, 10),
+        words_of(w, 10),
         0xd014f9a8c9ee2589,
         0xe13f0cc8b6630ca6,
     );
-    a % 2 + b % 2 + c % 2
+    a + b + c
 }
 
 // FIPS 197, appendices B and C.1: one block each.
-fn blocks() -> u64 {
+fn blocks() -> u64
+    ensures { λ r. ⌜ r ≤ 2 ⌝ }
+{
     let b = aes::encrypt(
         octets_of(0x2b7e151628aed2a6, 0xabf7158809cf4f3c),
         octets_of(0x3243f6a8885a308d, 0x313198a2e0370734),
@@ -138,7 +150,7 @@ fn blocks() -> u64 {
         0x69c4e0d86a7b0430,
         0xd8cdb78070b4c55a,
     );
-    x % 2 + y % 2
+    x + y
 }
 
 // SP 800-38A, F.1.1: a block under the key of the four samples.
@@ -149,7 +161,9 @@ fn ecb(high: u64, low: u64) -> Word128 {
     ))
 }
 
-fn ecb_blocks() -> u64 {
+fn ecb_blocks() -> u64
+    ensures { λ r. ⌜ r ≤ 4 ⌝ }
+{
     let a = ecb(0x6bc1bee22e409f96, 0xe93d7e117393172a);
     let b = ecb(0xae2d8a571e03ac9c, 0x9eb76fac45af8e51);
     let c = ecb(0x30c81c46a35ce411, 0xe5fbc1191a0a52ef);
@@ -178,7 +192,7 @@ fn ecb_blocks() -> u64 {
         0x7b0c785e27e8ad3f,
         0x8223207104725dd4,
     );
-    w % 2 + x % 2 + y % 2 + z % 2
+    w + x + y + z
 }
 
 // Vol 3 Part H, 2.2.3: k is 0, preq 0x07071000000101, pres 0x05000800000302, iat 1, ia 0xA1A2A3A4A5A6, rat 0,
@@ -212,8 +226,8 @@ fn short_term_key() -> Word128 {
 
 fn main() {
     let w = aes::key_expansion(octets_of(0x2b7e151628aed2a6, 0xabf7158809cf4f3c));
-    let schedule = key_expansion_1(w) % 16 + key_expansion_2(w) % 16 + key_expansion_3(w) % 16;
-    let ciphers = blocks() % 16 + ecb_blocks() % 16;
+    let schedule = key_expansion_1(w) + key_expansion_2(w) + key_expansion_3(w);
+    let ciphers = blocks() + ecb_blocks();
     let c = confirm();
     let s = short_term_key();
     let functions = sample(
@@ -222,14 +236,12 @@ fn main() {
         0x1e1e3fef878988ea,
         0xd2a74dc5bef13b86,
     )
-        % 16
         + sample(
             b"Part H 2.2.4 s1        ",
             s,
             0x9a1fe1f0e8b0f49b,
             0x5b4216ae796da062,
-        )
-            % 16;
+        );
     io::print_decimal(STDOUT_FILENO, schedule + ciphers + functions);
     io::write_all(STDOUT_FILENO, b" of 19 right\n");
 }

@@ -6,18 +6,15 @@ use native.Mathlib.Numerals.{add-one}
 use native.Mathlib.Omega.{arith}
 use lib.ListN.{length}
 use Rattle.aes.specs.Aes.{power, keyExpansion, roundKey, rounds, cipher, aes128}
-use Rattle.aes.specs.Columns.{four, octets}
+use Rattle.aes.specs.Columns.{octets}
 use Rattle.aes.specs.declared.Block.{Block}
+use Rattle.aes.proofs.Columns.{octets-length}
 use Rattle.aes.proofs.Schedule.{first-round-key, next-round-key}
 use Rattle.aes.proofs.cipher.Statement.{statement}
 use Rattle.aes.proofs.cipher.Tie as tie
 
 abbrev schedule : Block → List ℕ
 schedule key = keyExpansion (octets key)
-
-sixteen : (s : Block) → length (octets s) ≡ 16
-unfolding four octets
-sixteen s = refl
 
 -- after i full rounds; s₀ is the state before the first
 record Ran (key s₀ k s : Block) (r i : ℕ) : Type 0 where
@@ -36,14 +33,14 @@ loop-holds : tie.Need-loop-holds Inv-loop μ-loop
 unfolding rounds power
 loop-holds c =
     let key = c .before .args .key in
-    record { bound = omega arith; round-key = sym (first-round-key (octets key) (sixteen key)); state = refl; constant = refl }
+    record { bound = omega arith; round-key = sym (first-round-key (octets key) (octets-length key)); state = refl; constant = refl }
 
 loop-again : tie.Need-loop-again Inv-loop μ-loop
 unfolding rounds power
 loop-again c =
     let i = c .before .before .before .before .loop .round in
     let key = c .before .before .before .before .before .before .args .key in
-    let next = next-round-key i (octets key) (omega arith) (sixteen key) in
+    let next = next-round-key i (octets key) (omega arith) (octets-length key) in
     record { bound = omega arith; round-key = rw add-one (cc); state = rw add-one (cc); constant = rw add-one (cc) }
 
 returns : tie.Need-returns Inv-loop μ-loop
@@ -51,7 +48,7 @@ unfolding cipher aes128
 returns c =
     let key = c .before .before .before .before .before .before .args .key in
     let e : c .before .before .before .before .loop .round ≡ 9 = omega arith in
-    cc (next-round-key 9 (octets key) (omega arith) (sixteen key), first-round-key (octets key) (sixteen key))
+    cc (next-round-key 9 (octets key) (omega arith) (octets-length key), first-round-key (octets key) (octets-length key))
 
 pub cipher-spec : {M : Type 1} → statement M
 cipher-spec =

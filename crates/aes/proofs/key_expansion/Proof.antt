@@ -10,15 +10,12 @@ use Rattle.octets.specs.Octets.{writeAt}
 use Rattle.octets.proofs.Lists.{drop-replicate}
 use Rattle.octets.proofs.Parts.{write-next}
 use Rattle.aes.specs.Aes.{power, expand, keyExpansion, roundKey}
-use Rattle.aes.specs.Columns.{four, octets}
+use Rattle.aes.specs.Columns.{octets}
 use Rattle.aes.specs.declared.Block.{Block}
+use Rattle.aes.proofs.Columns.{octets-length}
 use Rattle.aes.proofs.Schedule.{first-round-key, next-round-key, length-expand, expand-next}
 use Rattle.aes.proofs.key_expansion.Statement.{statement}
 use Rattle.aes.proofs.key_expansion.Tie as tie
-
-sixteen : (s : Block) → length (octets s) ≡ 16
-unfolding four octets
-sixteen s = refl
 
 -- the key itself, then zeros
 key-written : (k : List ℕ) → length k ≡ 16 → writeAt (replicate 176 0) 0 k ≡ expand 0 k ++ replicate 160 0
@@ -54,7 +51,7 @@ loop-holds : tie.Need-loop-holds Inv-loop μ-loop
 unfolding power
 loop-holds c =
     let k = octets (c .load .result) in
-    let n = sixteen (c .load .result) in
+    let n = octets-length (c .load .result) in
     let words : c .before .before .write .last .0 ≡ expand 0 k ++ replicate 160 0 = c .before .before .write .ensures .slice ∙ rw (← c .load .ensures) (key-written k n) in
     record { bound = omega arith; size = filled 0 k _ (omega arith) n words; words = words; round-key = sym (first-round-key k n); constant = refl }
 
@@ -64,11 +61,11 @@ loop-again c =
     let at-loop = c .before .before .before .before .before .before .before .before .before in
     let i = at-loop .loop .round in
     let k = octets (at-loop .before .load .result) in
-    let n = sixteen (at-loop .before .load .result) in
+    let n = octets-length (at-loop .before .load .result) in
     let next : octets (c .before .before .before .before .before .before .next-key .result) ≡ roundKey (suc i) (keyExpansion k) = cc (next-round-key i k (omega arith) n) in
     let words : c .before .before .write2 .last .0 ≡ expand (4 * suc i) k ++ replicate (160 - 16 * suc i) 0 =
     c .before .before .write2 .ensures .slice
-    ∙ rw (c .before .before .before .before .before .store .ensures) (round-written i k _ _ (omega arith) n next (sixteen _) (at-loop .loop .inv .words)) in
+    ∙ rw (c .before .before .before .before .before .store .ensures) (round-written i k _ _ (omega arith) n next (octets-length _) (at-loop .loop .inv .words)) in
     rw add-one
     (record { bound = omega arith; size = filled (suc i) k _ (omega arith) n words; words = words; round-key = next; constant = cc })
 

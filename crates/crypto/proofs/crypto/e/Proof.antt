@@ -1,5 +1,6 @@
 -- `crypto::e` meets its contract. Assumes nothing.
-use Rattle.crypto.specs.Crypto.{octetsBE, wordBE, eOf}
+use Rattle.octets.specs.Octets.{octetsBE, wordBE}
+use Rattle.crypto.specs.Crypto.{eOf}
 use borrow.Author.Needs.{needs}
 use Rattle.crypto.proofs.crypto.e.Statement.{statement}
 use Rattle.crypto.proofs.crypto.e.Tie as tie

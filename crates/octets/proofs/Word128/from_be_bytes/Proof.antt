@@ -3,14 +3,14 @@ use mathlib.Core.Path.{_≡_, sym, ap}
 use mathlib.Core.List.{List, reverse}
 use Prim.Native.Nat.{ℕ}
 use lib.ListN.{length}
-use Rattle.octets.specs.Octets.{wordOf}
+use Rattle.octets.specs.Octets.{wordOf, wordBE}
 use Rattle.octets.proofs.Lists.{whole}
 use borrow.Author.Needs.{needs}
 use Rattle.octets.proofs.Word128.from_be_bytes.Statement.{statement}
 use Rattle.octets.proofs.Word128.from_be_bytes.Tie as tie
 
 returns : tie.Need-returns
-unfolding wordOf
+unfolding wordOf wordBE
 returns c =
     let b = c .before .before .args .t1 in
     let h : length b ≡ 16 = search needs in

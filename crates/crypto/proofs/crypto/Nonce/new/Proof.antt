@@ -1,5 +1,6 @@
 -- `crypto::Nonce::new` meets its contract. Assumes nothing.
-use Rattle.crypto.specs.Crypto.{wordBE, nonZero, drawnNonce}
+use Rattle.octets.specs.Octets.{wordBE}
+use Rattle.crypto.specs.Crypto.{nonZero, drawnNonce}
 use borrow.Author.Needs.{needs}
 use Rattle.crypto.proofs.crypto.Nonce.new.Statement.{statement}
 use Rattle.crypto.proofs.crypto.Nonce.new.Tie as tie
