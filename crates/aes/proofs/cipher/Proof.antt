@@ -4,7 +4,6 @@ use mathlib.Core.List.{List}
 use Prim.Native.Nat.{ℕ, _-_, _≤_}
 use native.Mathlib.Numerals.{add-one}
 use native.Mathlib.Omega.{arith}
-use lib.ListN.{length}
 use Rattle.aes.specs.Aes.{power, keyExpansion, roundKey, rounds, cipher, aes128}
 use Rattle.aes.specs.Columns.{octets}
 use Rattle.aes.specs.declared.Block.{Block}
