@@ -1,12 +1,12 @@
 -- Laws of lists, over the width and the index. Assumes nothing.
 use mathlib.Core.Path.{_≡_, refl, sym, ap, _∙_}
 use mathlib.Core.List.{List, [], _∷_}
-use Prim.Native.Nat.{ℕ, zero, suc, _+_, _≤_}
+use Prim.Native.Nat.{ℕ, zero, suc, _+_, _≤_, _<_}
 use native.Mathlib.Nat.{add-suc, add-zero, suc-add, zero-add, le-of-eq}
 use native.Mathlib.Numerals.{add-one}
 use native.Mathlib.Omega.{arith}
 use lib.ListN.{length, getD, take, drop, replicate, length-append, List·getD-append}
-use lib.Seq.{drop-cons, take-all, take-take, getD-at}
+use lib.Seq.{drop-cons, take-all, take-take, drop-drop, getD-take, getD-drop, getD-at}
 use Rattle.octets.specs.Tabulate.{tabulate}
 
 -- ---- n elements of a list from place at + k on, one by one
@@ -33,6 +33,14 @@ part-part m zero n l h = take-take m n l (omega arith)
 part-part m (suc k) zero l h = absurd (omega arith)
 part-part m (suc k) (suc n) [] h = refl
 part-part m (suc k) (suc n) (x ∷ l) h = part-part m k n l (omega arith)
+
+-- m elements from place k on, of the n that begin at place at
+pub within-part : (m k n at : ℕ) (s : List ℕ) → k + m ≤ n → take m (drop k (take n (drop at s))) ≡ take m (drop (at + k) s)
+within-part m k n at s h = part-part m k n (drop at s) h ∙ ap (take m) (drop-drop k at s)
+
+-- and one of them
+pub element-of-part : (k n at : ℕ) (s : List ℕ) → k < n → getD (take n (drop at s)) k 0 ≡ getD s (at + k) 0
+element-of-part k n at s h = getD-take n (drop at s) k 0 h ∙ getD-drop at s k 0
 
 -- ---- a list by its rule
 pub length-tabulate : (f : ℕ → ℕ) (n : ℕ) → length (tabulate f n) ≡ n

@@ -116,8 +116,25 @@ fn join(a: u8, b: u8, c: u8, d: u8, e: u8, f: u8, g: u8, h: u8) -> u64
     a as u64 + 256 * r1
 }
 
+// The number of two octets, least significant first.
+fn join_u16(a: u8, b: u8) -> u16
+    ensures { λ r. ⌜ r ≡ fromOctets (a ∷ b ∷ []) ⌝ }
+{
+    a as u16 + 256 * (b as u16)
+}
+
+// The number of four octets, least significant first.
+fn join_u32(a: u8, b: u8, c: u8, d: u8) -> u32
+    ensures { λ r. ⌜ r ≡ fromOctets (a ∷ b ∷ c ∷ d ∷ []) ⌝ }
+{
+    let r3 = d as u32;
+    let r2 = c as u32 + 256 * r3;
+    let r1 = b as u32 + 256 * r2;
+    a as u32 + 256 * r1
+}
+
 // The octets of a number, least significant first.
-fn split(x: u64) -> [u8; 8]
+pub fn split(x: u64) -> [u8; 8]
     ensures { λ r. ⌜ r ≡ toOctets 8 x ⌝ }
 {
     let x1 = x / 256;
@@ -137,6 +154,24 @@ fn split(x: u64) -> [u8; 8]
         (x6 % 256) as u8,
         (x7 % 256) as u8,
     ]
+}
+
+// The number of 16 bits at a place of a slice.
+// requires because it gives a number and has no refusal: the caller has tested the slice's length.
+pub fn read_u16(s: &[u8], at: usize) -> u16
+    requires { ⌜ at + 2 ≤ length (now s) ⌝ }
+    ensures { λ r. ⌜ r ≡ fromOctets (take 2 (drop at (now (s .entry)))) ⌝ }
+{
+    join_u16(s[at], s[at + 1])
+}
+
+// The number of 32 bits at a place of a slice.
+// requires because it gives a number and has no refusal: the caller has tested the slice's length.
+pub fn read_u32(s: &[u8], at: usize) -> u32
+    requires { ⌜ at + 4 ≤ length (now s) ⌝ }
+    ensures { λ r. ⌜ r ≡ fromOctets (take 4 (drop at (now (s .entry)))) ⌝ }
+{
+    join_u32(s[at], s[at + 1], s[at + 2], s[at + 3])
 }
 
 // The number of 64 bits at a place of a slice.

@@ -1,0 +1,23 @@
+-- `octets::read_u16` meets its contract. Assumes nothing.
+use mathlib.Core.Path.{sym, ap, _∙_}
+use denote.Ref.{now}
+use Rattle.octets.specs.Octets.{fromOctets}
+use Rattle.octets.proofs.Lists.{reads-at}
+use borrow.Author.Needs.{needs}
+use Rattle.octets.proofs.read_u16.Statement.{statement}
+use Rattle.octets.proofs.read_u16.Tie as tie
+
+returns : tie.Need-returns
+returns c =
+    let a = c .before .before .before .before in
+    c .join-u16 .ensures ∙ ap fromOctets (sym (reads-at 1 (a .args .at) (now (a .args .s)) (a .pre)))
+
+pub read-u16-spec : {M : Type 1} → statement M
+read-u16-spec =
+    tie.close
+    (tie.spec
+    (λ c. search needs)
+    (λ c. search needs)
+    (λ c. search needs)
+    (λ c κs. search needs)
+    returns)
