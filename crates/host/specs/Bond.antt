@@ -4,7 +4,7 @@ use mathlib.Core.Bool.{Bool, true, false, cond}
 use mathlib.Core.Option.{Option, none, some}
 use mathlib.Core.List.{List, [], _∷_, _++_}
 use lib.Dec.{eqb}
-use lib.ListN.{getD, take, drop}
+use lib.ListN.{getD, take, drop, replicate}
 use Rattle.octets.specs.Octets.{fromOctets, toOctets, octetsOf, wordOf}
 use Rattle.types.specs.Types.{reasonCode}
 use Rattle.host.specs.declared.BdAddr.{BdAddr}
@@ -14,6 +14,8 @@ use Rattle.host.specs.declared.Error.the-variants.{Security, InvalidStat
 use Rattle.host.specs.declared.TryFlag.{TryFlag}
 use Rattle.host.specs.declared.TryFlag.the-variants as try-flag
 use Rattle.host.specs.declared.BondInformation.{BondInformation}
+use Rattle.host.specs.declared.OptionBond.{OptionBond}
+use Rattle.host.specs.declared.OptionBond.the-variants as option
 use Rattle.host.specs.declared.TryBond.{TryBond}
 use Rattle.host.specs.declared.TryBond.the-variants as try-bond
 
@@ -98,3 +100,16 @@ bondOf l = onFlag (flagOf (getD l 26 0)) (bondWith l)
 abbrev pub tryBond : TryBond → Option BondInformation
 tryBond (try-bond.Ok b) = some b
 tryBond try-bond.InvalidValue = none
+
+-- ---- a bond or none: present 0/1, then the bond or zeros
+
+abbrev pub bondPresent : OptionBond → Bool
+bondPresent (option.Some b) = true
+bondPresent option.None = false
+
+abbrev pub bondOrZeros : OptionBond → List ℕ
+bondOrZeros (option.Some b) = bondOctets b
+bondOrZeros option.None = replicate 51 0
+
+abbrev pub optionBondOctets : OptionBond → List ℕ
+optionBondOctets o = flagCode (bondPresent o) ∷ bondOrZeros o

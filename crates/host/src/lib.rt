@@ -4,7 +4,7 @@ ghost use mathlib.Core.Path.{_≡_};
 ghost use Prim.Native.Nat.{_+_, _≤_};
 ghost use lib.ListN.{length, take, drop};
 ghost use Rattle.host.specs.Bond.{bdAddrOf, bdAddrOctets, addressOf, addressOctets, addressType};
-ghost use Rattle.host.specs.Bond.{failedBody, verdictError, flagCode, flagOf, tryFlag, bondOctets, bondOf, tryBond};
+ghost use Rattle.host.specs.Bond.{failedBody, verdictError, flagCode, flagOf, tryFlag, bondOctets, bondOf, tryBond, bondPresent, bondOrZeros};
 use octets::Word128;
 use octets::read_u16;
 use octets::read_u32;
@@ -174,6 +174,27 @@ pub struct BondInformation {
 pub enum OptionBond {
     Some(BondInformation),
     None,
+}
+
+impl OptionBond {
+    pub fn is_some(self) -> bool
+        ensures { λ r. ⌜ r ≡ bondPresent self ⌝ }
+    {
+        match self {
+            OptionBond::Some(_) => true,
+            OptionBond::None => false,
+        }
+    }
+
+    // The 51 octets of the bond, zeros where there is none.
+    pub fn encode(self) -> [u8; 51]
+        ensures { λ r. ⌜ r ≡ bondOrZeros self ⌝ }
+    {
+        match self {
+            OptionBond::Some(bond) => bond.encode(),
+            OptionBond::None => [0; 51],
+        }
+    }
 }
 
 // What reading a bond gives.

@@ -1,5 +1,5 @@
 -- Laws of a part of a list that is written, and of a part that is lent, over place and width. Assumes nothing.
-use mathlib.Core.Path.{_≡_, refl, sym, ap, _∙_}
+use mathlib.Core.Path.{_≡_, refl, sym, ap, ap₂, _∙_}
 use mathlib.Core.Bool.{true, false}
 use mathlib.Core.List.{List, _++_, append-assoc}
 use Prim.Native.Nat.{ℕ, _+_, _-_, _≤_, _<_}
@@ -7,7 +7,7 @@ use native.Mathlib.Omega.{arith}
 use borrow.Author.Tests.{le-leb, lt-leb}
 use borrow.Rule.Slice.PartMut.{putMid, post-is}
 use lib.ListN.{length, take, drop, length-append, length-drop}
-use lib.Seq.{take-at, drop-at, drop-append-add, length-take-le}
+use lib.Seq.{take-at, drop-at, drop-drop, drop-append-add, length-take-le}
 use Rattle.octets.specs.Octets.{fitsAt, writeAt}
 
 -- ---- a part that is lent, `&mut s[a..e]`, and comes back as q
@@ -54,3 +54,18 @@ write-next front rest w at e h =
     ∙ ap (λ (n : ℕ). front ++ (w ++ drop (n + length w) (front ++ rest))) e
     ∙ ap (λ (l : List ℕ). front ++ (w ++ l)) (drop-append-add front rest (length w))
     ∙ sym (append-assoc front w (drop (length w) rest))
+
+-- v is written, and then w behind it: both are
+pub write-then : (s v w : List ℕ) (at : ℕ) → at + length v + length w ≤ length s → writeAt (writeAt s at v) (at + length v) w ≡ writeAt s at (v ++ w)
+write-then s v w at h =
+    let front : List ℕ = take at s ++ v in
+    let rest : List ℕ = drop (at + length v) s in
+    let l : length (take at s) ≡ at = length-take-le at s (omega arith) in
+    let k : at + length v ≡ length front = sym (length-append (take at s) v ∙ ap (λ (n : ℕ). n + length v) l) in
+    let room : length w ≤ length rest = rw length-drop (omega arith) in
+    let sum : at + length v + length w ≡ at + length (v ++ w) = rw length-append (omega arith) in
+    ap (λ (t : List ℕ). writeAt t (at + length v) w) (written s at v (omega arith) ∙ sym (append-assoc (take at s) v rest))
+    ∙ write-next front rest w (at + length v) k room
+    ∙ ap₂ (λ (t u : List ℕ). t ++ u) (append-assoc (take at s) v w) (drop-drop (length w) (at + length v) s ∙ ap (λ (n : ℕ). drop n s) sum)
+    ∙ append-assoc (take at s) (v ++ w) (drop (at + length (v ++ w)) s)
+    ∙ sym (written s at (v ++ w) (rw sum at h))
