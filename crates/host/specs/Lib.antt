@@ -1,1 +1,2 @@
 pub mod Bond
+pub mod Calls

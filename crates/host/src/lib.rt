@@ -5,6 +5,8 @@ ghost use Prim.Native.Nat.{_+_, _≤_};
 ghost use lib.ListN.{length, take, drop};
 ghost use Rattle.host.specs.Bond.{bdAddrOf, bdAddrOctets, addressOf, addressOctets, addressType};
 ghost use Rattle.host.specs.Bond.{failedBody, verdictError, flagCode, flagOf, tryFlag, bondOctets, bondOf, tryBond, bondPresent, bondOrZeros};
+pub mod call;
+
 use octets::Word128;
 use octets::read_u16;
 use octets::read_u32;

@@ -1,6 +1,6 @@
 -- Laws of a part of a list that is written, and of a part that is lent, over place and width. Assumes nothing.
 use mathlib.Core.Path.{_≡_, refl, sym, ap, ap₂, _∙_}
-use mathlib.Core.Bool.{true, false}
+use mathlib.Core.Bool.{Bool, true, false}
 use mathlib.Core.List.{List, _++_, append-assoc}
 use Prim.Native.Nat.{ℕ, _+_, _-_, _≤_, _<_}
 use native.Mathlib.Omega.{arith}
@@ -8,7 +8,7 @@ use borrow.Author.Tests.{le-leb, lt-leb}
 use borrow.Rule.Slice.PartMut.{putMid, post-is}
 use lib.ListN.{length, take, drop, length-append, length-drop}
 use lib.Seq.{take-at, drop-at, drop-drop, drop-append-add, length-take-le}
-use Rattle.octets.specs.Octets.{fitsAt, writeAt}
+use Rattle.octets.specs.Octets.{fitsAt, writeAt, Written}
 
 -- ---- a part that is lent, `&mut s[a..e]`, and comes back as q
 pub first-part : (s : List ℕ) (a e : ℕ) (q : List ℕ) → a ≤ e → putMid a (e - a) s q ≡ take a s ++ (q ++ drop e s)
@@ -69,3 +69,22 @@ write-then s v w at h =
     ∙ ap₂ (λ (t u : List ℕ). t ++ u) (append-assoc (take at s) v w) (drop-drop (length w) (at + length v) s ∙ ap (λ (n : ℕ). drop n s) sum)
     ∙ append-assoc (take at s) (v ++ w) (drop (at + length (v ++ w)) s)
     ∙ sym (written s at (v ++ w) (rw sum at h))
+
+-- ---- what writes answer and leave
+
+-- where w does not fit, it is not written
+pub left-out : (s : List ℕ) (at : ℕ) (w : List ℕ) → length s < at + length w → Written s at w false s
+left-out s at w h = record { answer = sym (fits-not s at w h); slice = sym (not-written s at w h) }
+
+-- where both have room, v is written, and then w behind it
+pub written-then : (s v w : List ℕ) (at : ℕ) {s₁ s₂ : List ℕ} {d₁ d₂ : Bool} → at + length v + length w ≤ length s
+    → Written s at v d₁ s₁ → Written s₁ (at + length v) w d₂ s₂ → Written s at (v ++ w) d₂ s₂
+written-then s v w at h a b =
+    let k : at + length v ≤ length s = omega arith in
+    let l : length (writeAt s at v) ≡ length s = length-written s at v k in
+    let first : at + length v + length w ≤ length (writeAt s at v) = omega arith in
+    let both : at + length (v ++ w) ≤ length s = rw length-append (omega arith) in
+    record {
+      answer = b .answer ∙ ap (λ (t : List ℕ). fitsAt t (at + length v) w) (a .slice) ∙ fits (writeAt s at v) (at + length v) w first ∙ sym (fits s at (v ++ w) both);
+      slice = b .slice ∙ ap (λ (t : List ℕ). writeAt t (at + length v) w) (a .slice) ∙ write-then s v w at h;
+    }

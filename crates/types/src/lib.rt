@@ -11,6 +11,7 @@ pub use types::Command;
 pub use types::Decoded;
 pub use types::KeyDistributionFlags;
 pub use types::PairingFeatures;
+pub use types::PassKey;
 pub use types::Reason;
 pub use types::TryCommand;
 pub use types::TryUseOutOfBand;

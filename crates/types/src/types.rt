@@ -203,6 +203,18 @@ impl Command {
     }
 }
 
+// A passkey, or a value for use in numeric comparison
+pub struct PassKey(pub u32);
+
+impl PassKey {
+    // Get the underlying value as an integer.
+    pub fn value(self) -> u32
+        ensures { λ r. ⌜ r ≡ self .0 ⌝ }
+    {
+        self.0
+    }
+}
+
 // Out of band (OOB) authentication data ([Vol 3] Part H, Section 2.3.3).
 pub enum UseOutOfBand {
     // OOB not present

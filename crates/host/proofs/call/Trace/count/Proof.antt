@@ -1,0 +1,29 @@
+-- `host::call::Trace::count` meets its contract. Assumes nothing.
+use mathlib.Core.Path.{_≡_, sym}
+use lib.ListN.{length, length-map}
+use lib.Seq.{length-take-le, take-all}
+use native.Mathlib.Omega.{arith}
+use Rattle.host.specs.Calls.{listed}
+use Rattle.host.proofs.call.Trace.count.Statement.{statement}
+use Rattle.host.proofs.call.Trace.count.Tie as tie
+
+returns : tie.Need-returns
+unfolding listed
+returns c = 
+    let t = c .before .before .args .self in
+    let h : length (t .slots) ≡ 11 = rw length-map at (c .before .before .good .0 .1 .1 .0 .1 .0 .1) in
+    sym (length-take-le (t .len) (t .slots) (omega arith))
+
+returns-2 : tie.Need-returns-2
+unfolding listed
+returns-2 c = 
+    let t = c .before .before .args .self in
+    let h : length (t .slots) ≡ 11 = rw length-map at (c .before .before .good .0 .1 .1 .0 .1 .0 .1) in
+    sym (rw (take-all (t .len) (t .slots) (omega arith)) h)
+
+pub count-spec : {M : Type 1} → statement M
+count-spec =
+    tie.close
+    (tie.spec
+    returns
+    returns-2)
