@@ -5,6 +5,7 @@ ghost use Prim.Native.Nat.{_+_, _≤_};
 ghost use lib.ListN.{length, take, drop};
 ghost use Rattle.host.specs.Bond.{bdAddrOf, bdAddrOctets, addressOf, addressOctets, addressType};
 ghost use Rattle.host.specs.Bond.{failedBody, verdictError, flagCode, flagOf, tryFlag, bondOctets, bondOf, tryBond, bondPresent, bondOrZeros};
+pub mod answer;
 pub mod call;
 
 use octets::Word128;

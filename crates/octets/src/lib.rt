@@ -192,6 +192,32 @@ pub fn read_u64(s: &[u8], at: usize) -> u64
     )
 }
 
+// The 16 octets at a place of a slice.
+// requires because it gives octets and has no refusal: the caller has tested the slice's length.
+pub fn read_16(s: &[u8], at: usize) -> [u8; 16]
+    requires { ⌜ at + 16 ≤ length (now s) ⌝ }
+    ensures { λ r. ⌜ r ≡ take 16 (drop at (now (s .entry))) ⌝ }
+{
+    [
+        s[at],
+        s[at + 1],
+        s[at + 2],
+        s[at + 3],
+        s[at + 4],
+        s[at + 5],
+        s[at + 6],
+        s[at + 7],
+        s[at + 8],
+        s[at + 9],
+        s[at + 10],
+        s[at + 11],
+        s[at + 12],
+        s[at + 13],
+        s[at + 14],
+        s[at + 15],
+    ]
+}
+
 // The word at a place of a slice.
 // requires because it gives a word and has no refusal: the caller has tested the slice's length.
 pub fn read_word(s: &[u8], at: usize) -> Word128
