@@ -1,2 +1,3 @@
 pub mod Answering
+pub mod Listing
 pub mod Writing

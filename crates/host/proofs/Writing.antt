@@ -147,8 +147,8 @@ pub all-within : (l : List Slot) (i n : ℕ) (d : Slot) → i < n → n ≤ leng
 all-within l i n d h k =
     let e : take (i + 1) (take n l) ≡ take (i + 1) l = take-take (i + 1) n l (omega arith) in
     let both : allOctets (take n l) ≡ allOctets (take (i + 1) l) ++ allOctets (drop (i + 1) (take n l)) =
-      ap allOctets (sym (take-append-drop (i + 1) (take n l))) ∙ all-append (take (i + 1) (take n l)) (drop (i + 1) (take n l))
-      ∙ ap (λ (t : List Slot). allOctets t ++ allOctets (drop (i + 1) (take n l))) e in
+    ap allOctets (sym (take-append-drop (i + 1) (take n l))) ∙ all-append (take (i + 1) (take n l)) (drop (i + 1) (take n l))
+    ∙ ap (λ (t : List Slot). allOctets t ++ allOctets (drop (i + 1) (take n l))) e in
     rw (both, all-more l i d (omega arith)) (simp length-append (omega arith))
 
 -- ---- a loop over the calls of a trace

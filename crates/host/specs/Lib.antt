@@ -1,3 +1,4 @@
 pub mod Answers
 pub mod Bond
+pub mod CallList
 pub mod Calls

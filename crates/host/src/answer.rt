@@ -15,14 +15,14 @@ use crate::call::Question;
 use crate::read_address;
 use crate::read_bond;
 use crate::read_flag;
+use crypto::IdentityResolvingKey;
+use crypto::LongTermKey;
+use crypto::Nonce;
 use octets::read_16;
 use octets::read_u16;
 use octets::read_u32;
 use octets::read_u64;
 use octets::read_word;
-use crypto::IdentityResolvingKey;
-use crypto::LongTermKey;
-use crypto::Nonce;
 use types::PassKey;
 
 // Why there is no answer: the answers end here, or what is here is refused by 3.
@@ -262,16 +262,23 @@ pub fn read_bonded_encryption(answers: &[u8], at: usize) -> BondedEncryptionAnsw
         Frame::Body(b) => {
             let verdict = answers[b];
             if verdict != 0 {
-                return BondedEncryptionAnswer::BondedEncryption(OptionBondResult::Err(Error::from_verdict(verdict)));
+                return BondedEncryptionAnswer::BondedEncryption(OptionBondResult::Err(Error::from_verdict(
+                    verdict,
+                )));
             }
             let TryFlag::Ok(present) = read_flag(answers[b + 1]) else {
                 return BondedEncryptionAnswer::Stop(Stop::Refused);
             };
             if !present {
-                return BondedEncryptionAnswer::BondedEncryption(OptionBondResult::Ok(OptionBond::None));
+                return BondedEncryptionAnswer::BondedEncryption(OptionBondResult::Ok(
+                    OptionBond::None,
+                ));
             }
             match read_bond(answers, b + 2) {
-                TryBond::Ok(bond) => BondedEncryptionAnswer::BondedEncryption(OptionBondResult::Ok(OptionBond::Some(bond))),
+                TryBond::Ok(bond) =>
+                    BondedEncryptionAnswer::BondedEncryption(OptionBondResult::Ok(OptionBond::Some(
+                        bond,
+                    ))),
                 TryBond::InvalidValue => BondedEncryptionAnswer::Stop(Stop::Refused),
             }
         }

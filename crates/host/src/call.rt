@@ -11,13 +11,13 @@ use crate::BondInformation;
 use crate::Error;
 use crate::OptionBond;
 use crate::flag;
-use octets::split;
-use octets::write;
-use octets::write_word;
 use crypto::Confirm;
 use crypto::IdentityResolvingKey;
 use crypto::LongTermKey;
 use crypto::Nonce;
+use octets::split;
+use octets::write;
+use octets::write_word;
 use types::Command;
 use types::PairingFeatures;
 use types::PassKey;
@@ -36,7 +36,10 @@ pub enum Packet {
 // An event to the host's user (connection.rs).
 pub enum ConnectionEvent {
     PairingFailed(Error),
-    PairingComplete { security_level: u8, bond: OptionBond },
+    PairingComplete {
+        security_level: u8,
+        bond: OptionBond,
+    },
     PassKeyDisplay(PassKey),
     PassKeyInput,
     BondLost,
@@ -149,7 +152,10 @@ impl ConnectionEvent {
     {
         match self {
             ConnectionEvent::PairingFailed(_) => 0x20,
-            ConnectionEvent::PairingComplete { security_level: _, bond: _ } => 0x21,
+            ConnectionEvent::PairingComplete {
+                security_level: _,
+                bond: _,
+            } => 0x21,
             ConnectionEvent::PassKeyDisplay(_) => 0x22,
             ConnectionEvent::PassKeyInput => 0x23,
             ConnectionEvent::BondLost => 0x24,
@@ -166,7 +172,10 @@ impl ConnectionEvent {
                 let octets = error.failed_body();
                 write(list, at, &octets)
             }
-            ConnectionEvent::PairingComplete { security_level, bond } => write_complete(list, at, security_level, bond),
+            ConnectionEvent::PairingComplete {
+                security_level,
+                bond,
+            } => write_complete(list, at, security_level, bond),
             ConnectionEvent::PassKeyDisplay(passkey) => {
                 let octets = passkey_octets(passkey.0);
                 write(list, at, &octets)
@@ -270,7 +279,11 @@ impl Call {
             Call::SendConnectionEvent(event) => event.kind(),
             Call::Ask(question) => question.kind(),
             Call::Draw(draw) => draw.kind(),
-            Call::EnableEncryption { ltk: _, security_level: _, encryption_key_len: _ } => 0x3A,
+            Call::EnableEncryption {
+                ltk: _,
+                security_level: _,
+                encryption_key_len: _,
+            } => 0x3A,
             Call::EnableBondedEncryption => 0x3B,
             Call::UpdateBondInformation(_) => 0x3C,
         }
@@ -295,7 +308,11 @@ impl Call {
             Call::SendConnectionEvent(event) => event.write(list, at),
             Call::Ask(_) => at <= list.len(),
             Call::Draw(_) => at <= list.len(),
-            Call::EnableEncryption { ltk, security_level, encryption_key_len } => {
+            Call::EnableEncryption {
+                ltk,
+                security_level,
+                encryption_key_len,
+            } => {
                 let octets = encryption(ltk, security_level, encryption_key_len);
                 write(list, at, &octets)
             }

@@ -5,17 +5,19 @@ ghost use Prim.Native.Nat.{_+_, _≤_};
 ghost use lib.ListN.{length, take, drop};
 ghost use Rattle.host.specs.Bond.{bdAddrOf, bdAddrOctets, addressOf, addressOctets, addressType};
 ghost use Rattle.host.specs.Bond.{failedBody, verdictError, flagCode, flagOf, tryFlag, bondOctets, bondOf, tryBond, bondPresent, bondOrZeros};
+
 pub mod answer;
 pub mod call;
+pub mod list;
 
+use crypto::IdentityResolvingKey;
+use crypto::LongTermKey;
 use octets::Word128;
 use octets::read_u16;
 use octets::read_u32;
 use octets::read_u64;
 use octets::read_word;
 use octets::split;
-use crypto::IdentityResolvingKey;
-use crypto::LongTermKey;
 use types::Reason;
 
 // A device address of six octets: `low + 2^32 * high`, so that every value is one.

@@ -3,18 +3,18 @@
 ghost use mathlib.Core.Path.{_≡_};
 ghost use Rattle.types.specs.Types.{defaultFeatures};
 ghost use Rattle.machine.specs.Machine.{newData, wantBonding, noConfirmData, keptBy, resultOf, isEncrypted, newMachine, lescSwitch, securityLevelOf};
-use octets::Word128;
 use crypto::Confirm;
 use crypto::LongTermKey;
 use crypto::Nonce;
+use host::Address;
+use host::Error;
+use host::OptionBond;
+use octets::Word128;
 use types::BondingFlag;
 use types::Command;
 use types::IoCapabilities;
 use types::PairingFeatures;
 use util::PairingMethod;
-use host::Address;
-use host::Error;
-use host::OptionBond;
 
 // The end that a machine stands for.
 pub enum Role {
@@ -94,14 +94,21 @@ pub enum Phase {
     WaitingPairingRequest,
     // the central's first state
     WaitingPairingResponse,
-    WaitingPassKeyInput { confirm_bytes: ConfirmBytes },
+    WaitingPassKeyInput {
+        confirm_bytes: ConfirmBytes,
+    },
     WaitingOobData,
     WaitingPairingConfirm,
-    WaitingPairingRandom { peer_confirm: Confirm },
+    WaitingPairingRandom {
+        peer_confirm: Confirm,
+    },
     WaitingLinkEncrypted,
     WaitingIdentitityInformation,
     WaitingIdentitityAddressInformation,
-    ReceivingKeys { phase: u8, received_ltk: LongTermKey },
+    ReceivingKeys {
+        phase: u8,
+        received_ltk: LongTermKey,
+    },
     Success,
     Error(Error),
 }
@@ -128,7 +135,10 @@ impl Phase {
             Phase::WaitingLinkEncrypted => PairingResult::Pending,
             Phase::WaitingIdentitityInformation => PairingResult::Pending,
             Phase::WaitingIdentitityAddressInformation => PairingResult::Pending,
-            Phase::ReceivingKeys { phase: _, received_ltk: _ } => PairingResult::Pending,
+            Phase::ReceivingKeys {
+                phase: _,
+                received_ltk: _,
+            } => PairingResult::Pending,
             Phase::Success => PairingResult::Ok,
             Phase::Error(e) => PairingResult::Err(e),
         }
@@ -147,7 +157,10 @@ impl Phase {
             Phase::WaitingLinkEncrypted => false,
             Phase::WaitingIdentitityInformation => true,
             Phase::WaitingIdentitityAddressInformation => true,
-            Phase::ReceivingKeys { phase: _, received_ltk: _ } => true,
+            Phase::ReceivingKeys {
+                phase: _,
+                received_ltk: _,
+            } => true,
             Phase::Success => true,
             Phase::Error(_) => false,
         }
@@ -182,17 +195,16 @@ impl ConfirmPhaseData {
                 pres,
                 ..none
             },
-            Phase::WaitingOobData => ConfirmPhaseData {
-                preq,
-                pres,
-                ..none
-            },
+            Phase::WaitingOobData => ConfirmPhaseData { preq, pres, ..none },
             Phase::WaitingPairingConfirm => self,
             Phase::WaitingPairingRandom { peer_confirm: _ } => self,
             Phase::WaitingLinkEncrypted => none,
             Phase::WaitingIdentitityInformation => none,
             Phase::WaitingIdentitityAddressInformation => none,
-            Phase::ReceivingKeys { phase: _, received_ltk: _ } => none,
+            Phase::ReceivingKeys {
+                phase: _,
+                received_ltk: _,
+            } => none,
             Phase::Success => none,
             Phase::Error(_) => none,
         }

@@ -10,7 +10,7 @@ use Rattle.host.proofs.read_address.Tie as tie
 
 returns : tie.Need-returns
 unfolding addressOf
-returns c = 
+returns c =
     let a = c .before .before .before .args in
     rw (element-of-part 0 7 (a .at) (now (a .s)) (omega arith), add-zero, within-part 6 1 7 (a .at) (now (a .s)) (omega arith), ← c .read-bd-addr .ensures)
 

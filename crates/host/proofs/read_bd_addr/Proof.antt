@@ -13,7 +13,7 @@ use Rattle.host.proofs.read_bd_addr.Tie as tie
 
 returns : tie.Need-returns
 unfolding bdAddrOf
-returns c = 
+returns c =
     let a = c .before .before .before .args in
     rw (take-take 4 6 (drop (a .at) (now (a .s))) (omega arith), within-part 2 4 6 (a .at) (now (a .s)) (omega arith), ← c .before .read-u32 .ensures, ← c .read-u16 .ensures)
 

@@ -8,7 +8,7 @@ use Rattle.host.proofs.BdAddr.new.Statement.{statement}
 use Rattle.host.proofs.BdAddr.new.Tie as tie
 
 returns : tie.Need-returns
-returns c = 
+returns c =
     let val = c .before .before .args .t1 in
     let h : length val ≡ 6 = search needs in
     rw (← take-all 6 val (omega arith)) (c .read-bd-addr .ensures)

@@ -31,7 +31,7 @@ returns-2 c = rw (body-found _ _ _ (c .before .before .before .before .before .b
 
 returns-3 : tie.Need-returns-3
 unfolding bondedAt
-returns-3 c = 
+returns-3 c =
     let p : c .before .before .present .given .0 .0 ≡ false = not-back _ (c .if2 .taken) in
     rw (body-found _ _ _ (c .before .before .before .before .before .before .before .before .before .before .before .frame-at .ensures .0) (c .before .before .before .before .before .before .before .before .before .b .given .1), first-octet 53 _ _ (lit< tt), eq-eqb _ _ (c .before .before .before .before .before .before .if1 .left), element-of-part 1 53 _ _ (lit< tt), ← c .before .before .before .before .read-flag .ensures, c .before .before .present .given .1, p)
 
@@ -43,13 +43,13 @@ read-bond-requires c κs = let h = body-within _ _ _ (c .before .before .before 
 
 returns-4 : tie.Need-returns-4
 unfolding bondedAt
-returns-4 c = 
+returns-4 c =
     let p : c .before .before .before .before .before .before .present .given .0 .0 ≡ true = not-back _ (c .before .before .before .before .if2 .left) in
     rw (body-found _ _ _ (c .before .before .before .before .before .before .before .before .before .before .before .before .before .before .before .frame-at .ensures .0) (c .before .before .before .before .before .before .before .before .before .before .before .before .before .b .given .1), first-octet 53 _ _ (lit< tt), eq-eqb _ _ (c .before .before .before .before .before .before .before .before .before .before .if1 .left), element-of-part 1 53 _ _ (lit< tt), ← c .before .before .before .before .before .before .before .before .read-flag .ensures, c .before .before .before .before .before .before .present .given .1, p, within-part 51 2 53 _ _ (omega arith), ← c .before .before .before .read-bond .ensures, c .before .bond .given .1)
 
 returns-5 : tie.Need-returns-5
 unfolding bondedAt
-returns-5 c = 
+returns-5 c =
     let p : c .before .before .before .before .before .present .given .0 .0 ≡ true = not-back _ (c .before .before .before .if2 .left) in
     rw (body-found _ _ _ (c .before .before .before .before .before .before .before .before .before .before .before .before .before .before .frame-at .ensures .0) (c .before .before .before .before .before .before .before .before .before .before .before .before .b .given .1), first-octet 53 _ _ (lit< tt), eq-eqb _ _ (c .before .before .before .before .before .before .before .before .before .if1 .left), element-of-part 1 53 _ _ (lit< tt), ← c .before .before .before .before .before .before .before .read-flag .ensures, c .before .before .before .before .before .present .given .1, p, within-part 51 2 53 _ _ (omega arith), ← c .before .before .read-bond .ensures, c .enum-told2 .given .1)
 

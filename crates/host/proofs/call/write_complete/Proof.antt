@@ -12,19 +12,19 @@ use Rattle.host.proofs.call.write_complete.Statement.{statement}
 use Rattle.host.proofs.call.write_complete.Tie as tie
 
 returns : tie.Need-returns
-returns c = 
+returns c =
     let a = c .before .before .args in
     let l = bond-length (a .bond) in
     left-out (now (a .list)) (a .at) (a .security-level ∷ flagCode (bondPresent (a .bond)) ∷ bondOrZeros (a .bond)) (omega arith)
 
 returns-2 : tie.Need-returns-2
-returns-2 c = 
+returns-2 c =
     let a = c .before .before .before .args in
     let l = bond-length (a .bond) in
     left-out (now (a .list)) (a .at) (a .security-level ∷ flagCode (bondPresent (a .bond)) ∷ bondOrZeros (a .bond)) (omega arith)
 
 returns-3 : tie.Need-returns-3
-returns-3 c = 
+returns-3 c =
     let e = c .before .before .before .before .before in
     let w = e .before .before .before in
     let f = w .before .before .before in

@@ -11,20 +11,20 @@ use Rattle.host.proofs.call.Call.write.Statement.{statement}
 use Rattle.host.proofs.call.Call.write.Tie as tie
 
 returns : tie.Need-returns
-returns c = 
+returns c =
     let a = c .before .before .before .args in
     let l = c .before .size .ensures in
     left-out (now (a .list)) (a .at) (callOctets (a .self)) (omega arith)
 
 returns-2 : tie.Need-returns-2
-returns-2 c = 
+returns-2 c =
     let a = c .before .before .before .before .args in
     let l = c .before .before .size .ensures in
     left-out (now (a .list)) (a .at) (callOctets (a .self)) (omega arith)
 
 returns-3 : tie.Need-returns-3
 unfolding callOctets
-returns-3 c = 
+returns-3 c =
     let w = c .before .before .before .before .before .before in
     let k = w .before .before .before in
     let a = k .before .before .before .before .before .args in

@@ -9,14 +9,14 @@ use Rattle.host.proofs.call.Trace.count.Tie as tie
 
 returns : tie.Need-returns
 unfolding listed
-returns c = 
+returns c =
     let t = c .before .before .args .self in
     let h : length (t .slots) ≡ 11 = rw length-map at (c .before .before .good .0 .1 .1 .0 .1 .0 .1) in
     sym (length-take-le (t .len) (t .slots) (omega arith))
 
 returns-2 : tie.Need-returns-2
 unfolding listed
-returns-2 c = 
+returns-2 c =
     let t = c .before .before .args .self in
     let h : length (t .slots) ≡ 11 = rw length-map at (c .before .before .good .0 .1 .1 .0 .1 .0 .1) in
     sym (rw (take-all (t .len) (t .slots) (omega arith)) h)

@@ -43,7 +43,7 @@ array-copy-out-slot : tie.Need-array-copy-out-slot Inv-loop μ-loop
 array-copy-out-slot c = let w = c .before .loop .inv .counted in let m = w .most in omega arith
 
 add-at : tie.Need-add-at Inv-loop μ-loop
-add-at c = 
+add-at c =
     let w = c .before .before .before .before .before .before .before .loop .inv .counted in
     let m = w .most in
     let b = w .bound in
