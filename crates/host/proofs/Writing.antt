@@ -12,12 +12,12 @@ use lib.Seq.{take-suc, take-take}
 use native.Mathlib.Numerals.{add-one}
 use Rattle.octets.specs.Octets.{octetsOf, fitsAt, writeAt, Written}
 use Rattle.octets.proofs.Parts.{write-then, fits, length-written}
-use Rattle.host.specs.Bond.{bdAddrOctets, addressOctets, failedBody, bondOctets, bondOrZeros}
+use Rattle.bond.specs.Bond.{bdAddrOctets, addressOctets, failedBody, bondOctets, bondOrZeros}
 use Rattle.host.specs.Calls.{kindOf, bodyOf, eventKind, eventBody, packetCommand, packetBody, bodyLength, callOctets, allOctets, mostCalls, listed}
-use Rattle.host.specs.declared.Error.{Error}
-use Rattle.host.specs.declared.Error.the-variants as error
-use Rattle.host.specs.declared.OptionBond.{OptionBond}
-use Rattle.host.specs.declared.OptionBond.the-variants as option
+use Rattle.bond.specs.declared.Error.{Error}
+use Rattle.bond.specs.declared.Error.the-variants as error
+use Rattle.bond.specs.declared.OptionBond.{OptionBond}
+use Rattle.bond.specs.declared.OptionBond.the-variants as option
 use Rattle.host.specs.declared.call.Packet.{Packet}
 use Rattle.host.specs.declared.call.Packet.the-variants.{PairingResponse, PairingConfirm, PairingRandom, EncryptionInformation, CentralIdentification, IdentityInformation, IdentityAddressInformation}
 use Rattle.host.specs.declared.call.ConnectionEvent.{ConnectionEvent}

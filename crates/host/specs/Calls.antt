@@ -10,7 +10,7 @@ use Rattle.octets.specs.Octets.{toOctets, octetsOf}
 use Rattle.types.specs.Types.{commandCode, featureOctets}
 use Rattle.types.specs.declared.types.Command.{Command}
 use Rattle.types.specs.declared.types.Command.the-variants as command
-use Rattle.host.specs.Bond.{addressType, bdAddrOctets, failedBody, bondOctets, optionBondOctets}
+use Rattle.bond.specs.Bond.{addressType, bdAddrOctets, failedBody, bondOctets, optionBondOctets}
 use Rattle.host.specs.declared.call.Packet.{Packet}
 use Rattle.host.specs.declared.call.Packet.the-variants.{PairingResponse, PairingConfirm, PairingRandom, EncryptionInformation, CentralIdentification, IdentityInformation, IdentityAddressInformation}
 use Rattle.host.specs.declared.call.ConnectionEvent.{ConnectionEvent}

@@ -1,4 +1,2 @@
-pub mod Answers
-pub mod Bond
 pub mod CallList
 pub mod Calls

@@ -6,7 +6,6 @@ use mathlib.Core.Bool.{Bool, true, false, cond, _&&_}
 use mathlib.Core.List.{_∷_}
 use lib.ListN.{replicate}
 use Rattle.octets.specs.declared.Word128.{Word128}
-use Rattle.crypto.specs.declared.crypto.Nonce.{Nonce}
 use Rattle.types.specs.Types.{commandCode, defaultFeatures, featureOctets, bondingOf}
 use Rattle.types.specs.declared.types.Command.the-variants.{PairingRequest}
 use Rattle.types.specs.declared.types.BondingFlag.{BondingFlag}
@@ -14,9 +13,9 @@ use Rattle.types.specs.declared.types.BondingFlag.the-variants.{NoBonding, Bond
 use Rattle.types.specs.declared.types.PairingFeatures.{PairingFeatures}
 use Rattle.types.specs.declared.capabilities.IoCapabilities.{IoCapabilities}
 use Rattle.util.specs.declared.util.PairingMethod.the-variants.{JustWorks}
-use Rattle.host.specs.declared.Address.{Address}
-use Rattle.host.specs.declared.OptionBond.{OptionBond}
-use Rattle.host.specs.declared.OptionBond.the-variants as option
+use Rattle.bond.specs.declared.Address.{Address}
+use Rattle.bond.specs.declared.OptionBond.{OptionBond}
+use Rattle.bond.specs.declared.OptionBond.the-variants as option
 use Rattle.machine.specs.declared.Role.{Role}
 use Rattle.machine.specs.declared.Role.the-variants.{Central, Peripheral}
 use Rattle.machine.specs.declared.PairingData.{PairingData}

@@ -1,14 +1,13 @@
 // pairing/mod.rs: the data of a pairing and the inputs of a step. A state of the Rust that holds arrays is a phase here,
 // beside one record of what those states hold.
 ghost use mathlib.Core.Path.{_≡_};
-ghost use Rattle.types.specs.Types.{defaultFeatures};
 ghost use Rattle.machine.specs.Machine.{newData, wantBonding, noConfirmData, keptBy, resultOf, isEncrypted, newMachine, lescSwitch, securityLevelOf};
 use crypto::Confirm;
 use crypto::LongTermKey;
 use crypto::Nonce;
-use host::Address;
-use host::Error;
-use host::OptionBond;
+use bond::Address;
+use bond::Error;
+use bond::OptionBond;
 use octets::Word128;
 use types::BondingFlag;
 use types::Command;
@@ -266,12 +265,13 @@ impl Machine {
         let phase = self.phase;
         let data = self.pairing_data;
         let bond = data.bond_information;
-        if !phase.is_encrypted() {
-            return 0;
-        }
-        match bond {
-            OptionBond::Some(b) => b.security_level,
-            OptionBond::None => 0,
+        if phase.is_encrypted() {
+            match bond {
+                OptionBond::Some(b) => b.security_level,
+                OptionBond::None => 0,
+            }
+        } else {
+            0
         }
     }
 

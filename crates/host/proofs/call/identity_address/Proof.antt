@@ -1,5 +1,5 @@
 -- `host::call::identity_address` meets its contract. Assumes nothing.
-use Rattle.host.specs.Bond.{bdAddrOctets}
+use Rattle.bond.specs.Bond.{bdAddrOctets}
 use borrow.Author.Needs.{needs}
 use Rattle.host.proofs.call.identity_address.Statement.{statement}
 use Rattle.host.proofs.call.identity_address.Tie as tie

@@ -5,7 +5,7 @@ use native.Mathlib.Omega.{arith}
 use lib.ListN.{length}
 use denote.Ref.{now}
 use Rattle.octets.proofs.Parts.{left-out, written-then}
-use Rattle.host.specs.Bond.{flagCode, bondPresent, bondOrZeros}
+use Rattle.bond.specs.Bond.{flagCode, bondPresent, bondOrZeros}
 use Rattle.host.proofs.Writing.{bond-length}
 use borrow.Author.Needs.{needs}
 use Rattle.host.proofs.call.write_complete.Statement.{statement}

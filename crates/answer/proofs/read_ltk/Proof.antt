@@ -1,0 +1,30 @@
+-- `answer::read_ltk` meets its contract. Assumes nothing.
+use native.Mathlib.Omega.{arith}
+use Rattle.answer.specs.Answers.{ltkAt}
+use Rattle.answer.proofs.Answering.{body-found, body-stopped, body-within}
+use borrow.Author.Needs.{needs}
+use Rattle.answer.proofs.read_ltk.Statement.{statement}
+use Rattle.answer.proofs.read_ltk.Tie as tie
+
+read-word-requires : tie.Need-read-word-requires
+read-word-requires c κs = let h = body-within _ _ _ (c .before .before .before .frame-at .ensures .1) (c .before .b .given .1) in omega arith
+
+returns : tie.Need-returns
+unfolding ltkAt
+returns c = rw (← c .before .before .before .before .before .kind .ensures, body-found _ _ _ (c .before .before .before .before .frame-at .ensures .0) (c .before .before .b .given .1), ← c .read-word .ensures)
+
+returns-2 : tie.Need-returns-2
+unfolding ltkAt
+returns-2 c = rw (← c .before .before .before .before .kind .ensures, body-stopped _ _ _ (c .before .before .before .frame-at .ensures .0) (c .before .stop .given .1))
+
+pub read-ltk-spec : {M : Type 1} → statement M
+read-ltk-spec =
+    tie.close
+    (tie.spec
+    (λ c κs. search needs)
+    (λ c κs. search needs)
+    (λ c. search needs)
+    read-word-requires
+    (λ c. search needs)
+    returns
+    returns-2)

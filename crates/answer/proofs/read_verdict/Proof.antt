@@ -1,0 +1,30 @@
+-- `answer::read_verdict` meets its contract. Assumes nothing.
+use native.Mathlib.Omega.{arith}
+use lib.Dec.{lit<}
+use Rattle.answer.specs.Answers.{verdictAt}
+use Rattle.answer.proofs.Answering.{body-found, body-stopped, body-within, first-octet}
+use borrow.Author.Needs.{needs}
+use Rattle.answer.proofs.read_verdict.Statement.{statement}
+use Rattle.answer.proofs.read_verdict.Tie as tie
+
+shared-slice-read-t9 : tie.Need-shared-slice-read-t9
+shared-slice-read-t9 c = let h = body-within _ _ _ (c .before .before .before .before .frame-at .ensures .1) (c .before .before .b .given .1) in omega arith
+
+returns : tie.Need-returns
+unfolding verdictAt
+returns c = rw (body-found _ _ _ (c .before .before .before .before .frame-at .ensures .0) (c .before .before .b .given .1), first-octet 1 _ _ (lit< tt))
+
+returns-2 : tie.Need-returns-2
+unfolding verdictAt
+returns-2 c = rw (body-stopped _ _ _ (c .before .before .before .frame-at .ensures .0) (c .before .stop .given .1))
+
+pub read-verdict-spec : {M : Type 1} → statement M
+read-verdict-spec =
+    tie.close
+    (tie.spec
+    (λ c κs. search needs)
+    (λ c. search needs)
+    shared-slice-read-t9
+    (λ c. search needs)
+    returns
+    returns-2)
