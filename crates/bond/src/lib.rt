@@ -4,8 +4,6 @@ ghost use Prim.Native.Nat.{_+_, _≤_};
 ghost use lib.ListN.{length, take, drop};
 ghost use Rattle.bond.specs.Bond.{bdAddrOf, bdAddrOctets, addressOf, addressOctets, addressType};
 ghost use Rattle.bond.specs.Bond.{failedBody, verdictError, flagCode, flagOf, tryFlag, bondOctets, bondOf, tryBond, bondPresent, bondOrZeros};
-
-
 use crypto::IdentityResolvingKey;
 use crypto::LongTermKey;
 use octets::Word128;

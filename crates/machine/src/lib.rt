@@ -2,12 +2,12 @@
 // beside one record of what those states hold.
 ghost use mathlib.Core.Path.{_≡_};
 ghost use Rattle.machine.specs.Machine.{newData, wantBonding, noConfirmData, keptBy, resultOf, isEncrypted, newMachine, lescSwitch, securityLevelOf};
-use crypto::Confirm;
-use crypto::LongTermKey;
-use crypto::Nonce;
 use bond::Address;
 use bond::Error;
 use bond::OptionBond;
+use crypto::Confirm;
+use crypto::LongTermKey;
+use crypto::Nonce;
 use octets::Word128;
 use types::BondingFlag;
 use types::Command;

@@ -13,6 +13,7 @@ use Rattle.types.specs.Types.{reasons, oobOf, featureOctets, featuresWith}
 use Rattle.types.specs.declared.types.Reason.{Reason}
 use Rattle.types.specs.declared.types.Reason.the-variants as reason
 use Rattle.types.specs.declared.types.PairingFeatures.{PairingFeatures}
+use Rattle.types.specs.declared.capabilities.IoCapabilities.the-variants.{NoInputNoOutput}
 use Rattle.util.specs.Method.{«CENTRAL_DISPLAYS», «PERIPHERAL_DISPLAYS», «BOTH_INPUT»}
 use Rattle.util.specs.declared.util.PassKeyEntryAction.the-variants.{Display, Input}
 use Rattle.util.specs.declared.util.PairingMethod.{PairingMethod}
@@ -23,7 +24,7 @@ use Rattle.bond.specs.declared.Error.the-variants.{Security, InvalidState, Inva
 use Rattle.bond.specs.declared.BondInformation.{BondInformation}
 use Rattle.bond.specs.declared.OptionBond.{OptionBond}
 use Rattle.bond.specs.declared.OptionBond.the-variants as option
-use Rattle.machine.specs.Machine.{zeroWord, keptBy, firstPhase}
+use Rattle.machine.specs.Machine.{zeroWord, keptBy, firstPhase, newData, newMachine}
 use Rattle.machine.specs.declared.Role.{Role}
 use Rattle.machine.specs.declared.PairingData.{PairingData}
 use Rattle.machine.specs.declared.ConfirmPhaseData.{ConfirmPhaseData}
@@ -319,9 +320,10 @@ abbrev pub tryPairingData : TryPairingData → Answer PairingData
 tryPairingData (try-data.Ok d) = accepted d
 tryPairingData (try-data.Refused n) = refused n
 
-abbrev pub readingOf : Reading → Machine → Answer Machine
-readingOf reading.Ok m = accepted m
-readingOf (reading.Refused n) m = refused n
+-- what a refusal gives in a machine's place: a fresh head of no address
+unfoldable pub noMachine : Machine
+noMachine = newMachine (newData (record { kind = 0; addr = record { low = 0; high = 0 } }) (record { kind = 0; addr = record { low = 0; high = 0 } }) NoInputNoOutput)
 
-abbrev pub readAnswer : ReadMachine → Answer Machine
-readAnswer r = readingOf (r .reading) (r .machine)
+abbrev pub readOf : Answer Machine → ReadMachine
+readOf (refused n) = record { reading = reading.Refused n; machine = noMachine }
+readOf (accepted m) = record { reading = reading.Ok; machine = m }

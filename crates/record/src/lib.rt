@@ -10,10 +10,7 @@ ghost use Rattle.bond.specs.Bond.{addressOctets, optionBondOctets};
 ghost use Rattle.record.specs.Record.{recordSize, phaseOctets, storedCode, confirmIn, receivedIn, methodCode, machineOctets};
 ghost use Rattle.record.specs.Record.{octetsAt, reasonAt, errorOf, passKeyOf, phaseOf, phaseAt, featuresAt, methodOf, optionBondOf};
 ghost use Rattle.record.specs.Record.{pairingDataOf, confirmDataOf, sameOctets, machineOf};
-ghost use Rattle.record.specs.Record.{tryReason, tryPhase, tryFeatures, tryMethod, tryOptionBond, tryPairingData, readAnswer};
-use crypto::Confirm;
-use crypto::LongTermKey;
-use crypto::Nonce;
+ghost use Rattle.record.specs.Record.{tryReason, tryPhase, tryFeatures, tryMethod, tryOptionBond, tryPairingData, readOf};
 use bond::Address;
 use bond::BdAddr;
 use bond::Error;
@@ -22,6 +19,9 @@ use bond::TryBond;
 use bond::flag;
 use bond::read_address;
 use bond::read_bond;
+use crypto::Confirm;
+use crypto::LongTermKey;
+use crypto::Nonce;
 use machine::ConfirmBytes;
 use machine::ConfirmPhaseData;
 use machine::Machine;
@@ -523,7 +523,7 @@ pub struct ReadMachine {
 }
 
 fn refuse(n: u8) -> ReadMachine
-    ensures { λ r. ⌜ readAnswer r ≡ refused n ⌝ }
+    ensures { λ r. ⌜ r ≡ readOf (refused n) ⌝ }
 {
     let none = Address {
         kind: 0,
@@ -538,7 +538,7 @@ fn refuse(n: u8) -> ReadMachine
 
 // 20 the length, 21 the phase, 22 features, 23 the method, 24 the bond, 25 a record that is not the one of its machine.
 pub fn read_machine(role: Role, record: &[u8]) -> ReadMachine
-    ensures { λ r. ⌜ readAnswer r ≡ machineOf role (now («record» .entry)) ⌝ }
+    ensures { λ r. ⌜ r ≡ readOf (machineOf role (now («record» .entry))) ⌝ }
 {
     if record.len() != 161 {
         return refuse(20);

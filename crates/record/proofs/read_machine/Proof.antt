@@ -6,7 +6,7 @@ use borrow.Author.Needs.{needs}
 use Rattle.octets.specs.Answer.{andThen}
 use Rattle.machine.specs.Machine.{keptBy}
 use Rattle.machine.specs.declared.Machine.{Machine}
-use Rattle.record.specs.Record.{pairingDataOf, confirmDataOf, canonical, machineOf, tryPhase, tryPairingData}
+use Rattle.record.specs.Record.{pairingDataOf, confirmDataOf, canonical, machineOf, tryPhase, tryPairingData, readOf}
 use Rattle.record.proofs.Compared.{own, not-own}
 use Rattle.record.proofs.read_machine.Statement.{statement}
 use Rattle.record.proofs.read_machine.Tie as tie
@@ -59,13 +59,13 @@ returns-4 : tie.Need-returns-4
 returns-4 c =
     let d = c .before in
     let l = now (d .before .before .before .before .before .before .before .before .before .before .before .before .before .args .«record») in
-    sym (with-data d ∙ own l (machine d) (sym (d .is-record-of .ensures) ∙ c .if2 .taken))
+    ap readOf (sym (with-data d ∙ own l (machine d) (sym (d .is-record-of .ensures) ∙ c .if2 .taken)))
 
 returns-5 : tie.Need-returns-5
 returns-5 c =
     let d = c .before .before in
     let l = now (d .before .before .before .before .before .before .before .before .before .before .before .before .before .args .«record») in
-    c .refuse4 .ensures ∙ sym (with-data d ∙ not-own l (machine d) (sym (d .is-record-of .ensures) ∙ c .before .if2 .left))
+    c .refuse4 .ensures ∙ ap readOf (sym (with-data d ∙ not-own l (machine d) (sym (d .is-record-of .ensures) ∙ c .before .if2 .left)))
 
 pub read-machine-spec : {M : Type 1} → statement M
 read-machine-spec =
