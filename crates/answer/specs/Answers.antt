@@ -13,7 +13,7 @@ use Rattle.crypto.specs.declared.crypto.LongTermKey.{LongTermKey}
 use Rattle.crypto.specs.declared.crypto.Nonce.{Nonce}
 use Rattle.types.specs.declared.types.PassKey.{PassKey}
 use Rattle.bond.specs.Bond.{addressOf, verdictError, flagOf, bondOf}
-use Rattle.host.specs.Calls.{kindOf, questionKind}
+use Rattle.host.specs.Calls.{kindOf, encryptionKind}
 use Rattle.bond.specs.declared.Address.{Address}
 use Rattle.bond.specs.declared.BondInformation.{BondInformation}
 use Rattle.bond.specs.declared.OptionBond.{OptionBond}
@@ -73,15 +73,22 @@ drawAnswer draw.LongTermKey = 16
 drawAnswer draw.Ediv = 2
 drawAnswer draw.Rand = 8
 
+abbrev pub verdictLength : ℕ
+verdictLength = 1
+
+-- verdict and bond
+abbrev pub encryptionLength : ℕ
+encryptionLength = 52
+
 -- packets, events and updates are answered by a verdict; 0x3A by verdict and bond, 0x3B by verdict, present and bond
 abbrev pub answerLength : Call → ℕ
-answerLength (call.SendPacket p) = 1
-answerLength (call.SendConnectionEvent e) = 1
+answerLength (call.SendPacket p) = verdictLength
+answerLength (call.SendConnectionEvent e) = verdictLength
 answerLength (call.Ask q) = questionAnswer q
 answerLength (call.Draw d) = drawAnswer d
-answerLength (call.EnableEncryption k l n) = 52
+answerLength (call.EnableEncryption k l n) = encryptionLength
 answerLength call.EnableBondedEncryption = 53
-answerLength (call.UpdateBondInformation b) = 1
+answerLength (call.UpdateBondInformation b) = verdictLength
 
 -- ---- what stands at a place
 
@@ -113,7 +120,7 @@ answerAt s at c = bodyAt s at (kindOf c) (answerLength c)
 
 -- a verdict: 0 done, 1 out of memory, others a host error with that octet
 unfoldable pub verdictAt : List ℕ → ℕ → ℕ → Found ℕ
-verdictAt s at kind = onFound (bodyAt s at kind 1) (λ b. found (getD b 0 0))
+verdictAt s at kind = onFound (bodyAt s at kind verdictLength) (λ b. found (getD b 0 0))
 
 -- a yes/no octet is 0 or 1
 unfoldable pub flagAt : List ℕ → ℕ → ℕ → Found Bool
@@ -157,7 +164,7 @@ abbrev pub encryptionBody : List ℕ → Found BondResult
 encryptionBody b = cond (eqb (getD b 0 0) 0) (allowed (bondOf (take 51 (drop 1 b))) bond-result.Ok) (found (bond-result.Err (verdictError (getD b 0 0))))
 
 unfoldable pub encryptionAt : List ℕ → ℕ → Found BondResult
-encryptionAt s at = onFound (bodyAt s at 0x3A 52) encryptionBody
+encryptionAt s at = onFound (bodyAt s at encryptionKind encryptionLength) encryptionBody
 
 -- verdict, then present 0/1, ignored after a verdict other than 0, then the bond, ignored where absent
 abbrev pub presentBody : List ℕ → Bool → Found OptionBondResult

@@ -81,6 +81,17 @@ drawKind draw.LongTermKey = 0x37
 drawKind draw.Ediv = 0x38
 drawKind draw.Rand = 0x39
 
+-- ---- encryption and bonds
+
+abbrev pub encryptionKind : ℕ
+encryptionKind = 0x3A
+
+abbrev pub bondedKind : ℕ
+bondedKind = 0x3B
+
+abbrev pub updateKind : ℕ
+updateKind = 0x3C
+
 -- ---- every call
 
 abbrev pub kindOf : Call → ℕ
@@ -88,9 +99,9 @@ kindOf (call.SendPacket p) = commandCode (packetCommand p)
 kindOf (call.SendConnectionEvent e) = eventKind e
 kindOf (call.Ask q) = questionKind q
 kindOf (call.Draw d) = drawKind d
-kindOf (call.EnableEncryption k l n) = 0x3A
-kindOf call.EnableBondedEncryption = 0x3B
-kindOf (call.UpdateBondInformation b) = 0x3C
+kindOf (call.EnableEncryption k l n) = encryptionKind
+kindOf call.EnableBondedEncryption = bondedKind
+kindOf (call.UpdateBondInformation b) = updateKind
 
 -- 0x3A: key 16, level, key size
 abbrev pub bodyOf : Call → List ℕ

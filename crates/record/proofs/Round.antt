@@ -12,6 +12,7 @@ use Rattle.octets.specs.declared.Word128.{Word128}
 use Rattle.types.specs.declared.types.Reason.{Reason}
 use Rattle.types.proofs.Tables.{refused≢accepted}
 use Rattle.bond.specs.declared.Error.the-variants.{Security}
+use Rattle.bond.proofs.Back.{WordValued, AddressValued, OptionBondValued, word-read, address-back}
 use Rattle.machine.specs.Machine.{keptBy, firstPhase, OfRole, Canonical}
 use Rattle.machine.specs.declared.Role.{Role}
 use Rattle.machine.specs.declared.Role.the-variants.{Central, Peripheral}
@@ -23,7 +24,7 @@ use Rattle.record.specs.Record.{recordSize, confirmIn, receivedIn, machi
 use Rattle.record.specs.Record.{phasesWith, phaseOf, phaseAt, pairingDataOf, confirmDataOf, sameOctets, canonical, machineOf}
 use Rattle.record.proofs.Compared.{same-refl, same-true, own}
 use Rattle.record.proofs.Sizes.{record-length}
-use Rattle.record.proofs.Back.{WordValued, AddressValued, OptionBondValued, word-read, phase-back, features-back, method-back, address-back, option-bond-back}
+use Rattle.record.proofs.Back.{phase-back, features-back, method-back, option-bond-back}
 use Rattle.record.proofs.Places.{Placed, placed}
 
 -- every machine in code has this: its numbers fit their types, and its arrays have their lengths
