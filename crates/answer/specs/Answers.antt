@@ -15,8 +15,6 @@ use Rattle.types.specs.declared.types.PassKey.{PassKey}
 use Rattle.bond.specs.Bond.{addressOf, verdictError, flagOf, bondOf}
 use Rattle.host.specs.Calls.{kindOf, encryptionKind}
 use Rattle.bond.specs.declared.Address.{Address}
-use Rattle.bond.specs.declared.BondInformation.{BondInformation}
-use Rattle.bond.specs.declared.OptionBond.{OptionBond}
 use Rattle.bond.specs.declared.OptionBond.the-variants as option
 use Rattle.host.specs.declared.call.Question.{Question}
 use Rattle.host.specs.declared.call.Question.the-variants as question

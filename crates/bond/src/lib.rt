@@ -6,7 +6,6 @@ ghost use Rattle.bond.specs.Bond.{bdAddrOf, bdAddrOctets, addressOf, add
 ghost use Rattle.bond.specs.Bond.{failedBody, verdictError, flagCode, flagOf, tryFlag, bondOctets, bondOf, tryBond, bondPresent, bondOrZeros};
 use crypto::IdentityResolvingKey;
 use crypto::LongTermKey;
-use octets::Word128;
 use octets::read_u16;
 use octets::read_u32;
 use octets::read_u64;

@@ -8,10 +8,10 @@ use native.Mathlib.Nat.{add-zero, add-suc, suc-add}
 use native.Mathlib.Numerals.{add-one}
 use native.Mathlib.Omega.{arith}
 use lib.ListN.{length, getD, take, drop, length-append, length-drop, take-append-drop, drop-of-length-le}
-use lib.Seq.{length-take-le, drop-cons, drop-drop, drop-append-seam, getD-at, take-at, drop-at}
+use lib.Seq.{length-take-le, drop-cons, drop-drop, drop-append-seam, getD-at}
 use Rattle.octets.specs.Answer.{Answer, refused, accepted, andThen}
 use Rattle.types.proofs.Tables.{refused≢accepted}
-use Rattle.host.specs.Calls.{kindOf, bodyOf, callOctets, allOctets, bodyLength}
+use Rattle.host.specs.Calls.{bodyOf, callOctets, allOctets, bodyLength}
 use Rattle.host.specs.CallList.{begins, callsFrom, callsOf, recordsFrom, noCall, checkedOf, countOf, callIn, callAtOf, sizeOf, endToEnd}
 use Rattle.host.specs.declared.call.Slot.{Slot}
 use Rattle.host.specs.declared.list.CallRecord.{CallRecord}

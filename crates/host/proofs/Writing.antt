@@ -13,7 +13,7 @@ use native.Mathlib.Numerals.{add-one}
 use Rattle.octets.specs.Octets.{octetsOf, fitsAt, writeAt, Written}
 use Rattle.octets.proofs.Parts.{write-then, fits, length-written}
 use Rattle.bond.specs.Bond.{bdAddrOctets, addressOctets, failedBody, bondOctets, bondOrZeros}
-use Rattle.host.specs.Calls.{kindOf, bodyOf, eventKind, eventBody, packetCommand, packetBody, bodyLength, callOctets, allOctets, mostCalls, listed}
+use Rattle.host.specs.Calls.{kindOf, bodyOf, eventKind, eventBody, packetBody, bodyLength, callOctets, allOctets, mostCalls, listed}
 use Rattle.bond.specs.declared.Error.{Error}
 use Rattle.bond.specs.declared.Error.the-variants as error
 use Rattle.bond.specs.declared.OptionBond.{OptionBond}

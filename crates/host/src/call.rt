@@ -3,7 +3,6 @@ ghost use mathlib.Core.Path.{_≡_};
 ghost use mathlib.Core.List.{[], _∷_, _++_};
 ghost use lib.ListN.{length};
 ghost use Rattle.octets.specs.Octets.{toOctets, octetsOf, Written};
-ghost use Rattle.types.specs.Types.{commandCode};
 ghost use Rattle.bond.specs.Bond.{addressType, bdAddrOctets, bondPresent, bondOrZeros, flagCode};
 ghost use Rattle.host.specs.Calls.{packetCommand, kindOf, eventKind, questionKind, drawKind, bodyLength, bodySize, packetBody, eventBody, bodyOf, callOctets, allOctets, listed, noTrace, pushOf};
 use bond::Address;

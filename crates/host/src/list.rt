@@ -1,6 +1,6 @@
 // Reading a call list: the whole list is checked before anything is returned, and a body's values are not looked at.
 ghost use mathlib.Core.Path.{_≡_};
-ghost use Rattle.host.specs.CallList.{callsOf, countOf, callAtOf, countAnswer, callAnswer, checkedAnswer, checkedOf};
+ghost use Rattle.host.specs.CallList.{countOf, callAtOf, countAnswer, callAnswer, checkedAnswer, checkedOf};
 use crate::call::BodyLength;
 use crate::call::body_length;
 

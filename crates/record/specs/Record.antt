@@ -46,7 +46,6 @@ use Rattle.record.specs.declared.TryOptionBond.the-variants as try-bond
 use Rattle.record.specs.declared.TryPairingData.{TryPairingData}
 use Rattle.record.specs.declared.TryPairingData.the-variants as try-data
 use Rattle.record.specs.declared.ReadMachine.{ReadMachine}
-use Rattle.record.specs.declared.Reading.{Reading}
 use Rattle.record.specs.declared.Reading.the-variants as reading
 
 abbrev pub recordSize : ℕ

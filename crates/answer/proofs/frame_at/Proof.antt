@@ -21,7 +21,11 @@ returns c = (rw (eq-eqb _ _ (c .if1 .taken)), tt)
 
 returns-2 : tie.Need-returns-2
 unfolding bodyAt
-returns-2 c = let a = c .before .before .args in (rw (ne-eqb _ _ (c .before .if1 .left), le-ltb (a .at + a .size) (length (now (a .answers))) (omega arith)), tt)
+returns-2 c =
+    let a = c .before .before .args in (
+      rw (ne-eqb _ _ (c .before .if1 .left), le-ltb (a .at + a .size) (length (now (a .answers))) (omega arith)),
+      tt,
+    )
 
 returns-3 : tie.Need-returns-3
 unfolding bodyAt
@@ -29,11 +33,23 @@ returns-3 c = (rw (ne-eqb _ _ (c .before .before .before .if1 .left), ne-eqb _ _
 
 returns-4 : tie.Need-returns-4
 unfolding bodyAt
-returns-4 c = let a = c .before .before .before .before .before .args in (rw (ne-eqb _ _ (c .before .before .before .before .if1 .left), le-ltb (a .at + a .size) (length (now (a .answers))) (omega arith)), tt)
+returns-4 c =
+    let a = c .before .before .before .before .before .args in (
+      rw (ne-eqb _ _ (c .before .before .before .before .if1 .left), le-ltb (a .at + a .size) (length (now (a .answers))) (omega arith)),
+      tt,
+    )
 
 returns-5 : tie.Need-returns-5
 unfolding bodyAt
-returns-5 c = let a = c .before .before .before .before .before .args in (rw (ne-eqb _ _ (c .before .before .before .before .if1 .left), lt-ltb (a .at + a .size) (length (now (a .answers))) (omega arith), eq-eqb _ _ (c .before .if3 .left)), omega arith)
+returns-5 c =
+    let a = c .before .before .before .before .before .args in (
+      rw (
+        ne-eqb _ _ (c .before .before .before .before .if1 .left),
+        lt-ltb (a .at + a .size) (length (now (a .answers))) (omega arith),
+        eq-eqb _ _ (c .before .if3 .left),
+      ),
+      omega arith,
+    )
 
 pub frame-at-spec : {M : Type 1} → statement M
 frame-at-spec =

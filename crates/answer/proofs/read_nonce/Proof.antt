@@ -7,15 +7,30 @@ use Rattle.answer.proofs.read_nonce.Statement.{statement}
 use Rattle.answer.proofs.read_nonce.Tie as tie
 
 read-16-requires : tie.Need-read-16-requires
-read-16-requires c κs = let h = body-within _ _ _ (c .before .before .before .frame-at .ensures .1) (c .before .b .given .1) in omega arith
+read-16-requires c κs =
+    let found = c .before in
+    let h = body-within _ _ _ (found .before .before .frame-at .ensures .1) (found .b .given .1) in
+    omega arith
 
 returns : tie.Need-returns
 unfolding nonceAt
-returns c = rw (← c .before .before .before .before .before .before .kind .ensures, body-found _ _ _ (c .before .before .before .before .before .frame-at .ensures .0) (c .before .before .before .b .given .1), ← c .before .read-16 .ensures, ← c .new .ensures)
+returns c =
+    rw (
+      ← c .before .before .before .before .before .before .kind .ensures,
+      let found = c .before .before .before in
+          body-found _ _ _ (found .before .before .frame-at .ensures .0) (found .b .given .1),
+      ← c .before .read-16 .ensures,
+      ← c .new .ensures,
+    )
 
 returns-2 : tie.Need-returns-2
 unfolding nonceAt
-returns-2 c = rw (← c .before .before .before .before .kind .ensures, body-stopped _ _ _ (c .before .before .before .frame-at .ensures .0) (c .before .stop .given .1))
+returns-2 c =
+    rw (
+      ← c .before .before .before .before .kind .ensures,
+      let found = c .before in
+          body-stopped _ _ _ (found .before .before .frame-at .ensures .0) (found .stop .given .1),
+    )
 
 pub read-nonce-spec : {M : Type 1} → statement M
 read-nonce-spec =

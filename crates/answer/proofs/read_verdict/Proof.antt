@@ -8,15 +8,22 @@ use Rattle.answer.proofs.read_verdict.Statement.{statement}
 use Rattle.answer.proofs.read_verdict.Tie as tie
 
 shared-slice-read-t9 : tie.Need-shared-slice-read-t9
-shared-slice-read-t9 c = let h = body-within _ _ _ (c .before .before .before .before .frame-at .ensures .1) (c .before .before .b .given .1) in omega arith
+shared-slice-read-t9 c =
+    let found = c .before .before in
+    let h = body-within _ _ _ (found .before .before .frame-at .ensures .1) (found .b .given .1) in
+    omega arith
 
 returns : tie.Need-returns
 unfolding verdictAt
-returns c = rw (body-found _ _ _ (c .before .before .before .before .frame-at .ensures .0) (c .before .before .b .given .1), first-octet 1 _ _ (lit< tt))
+returns c =
+    let found = c .before .before in
+    rw (body-found _ _ _ (found .before .before .frame-at .ensures .0) (found .b .given .1), first-octet 1 _ _ (lit< tt))
 
 returns-2 : tie.Need-returns-2
 unfolding verdictAt
-returns-2 c = rw (body-stopped _ _ _ (c .before .before .before .frame-at .ensures .0) (c .before .stop .given .1))
+returns-2 c =
+    let found = c .before in
+    rw (body-stopped _ _ _ (found .before .before .frame-at .ensures .0) (found .stop .given .1))
 
 pub read-verdict-spec : {M : Type 1} → statement M
 read-verdict-spec =

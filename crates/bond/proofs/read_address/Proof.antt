@@ -12,7 +12,12 @@ returns : tie.Need-returns
 unfolding addressOf
 returns c =
     let a = c .before .before .before .args in
-    rw (element-of-part 0 7 (a .at) (now (a .s)) (omega arith), add-zero, within-part 6 1 7 (a .at) (now (a .s)) (omega arith), ← c .read-bd-addr .ensures)
+    rw (
+      element-of-part 0 7 (a .at) (now (a .s)) (omega arith),
+      add-zero,
+      within-part 6 1 7 (a .at) (now (a .s)) (omega arith),
+      ← c .read-bd-addr .ensures,
+    )
 
 pub read-address-spec : {M : Type 1} → statement M
 read-address-spec =

@@ -1,7 +1,5 @@
 -- `bond::read_bd_addr` meets its contract. Assumes nothing.
-use mathlib.Core.Path.{sym, ap}
 use denote.Ref.{now}
-use Prim.Native.Nat.{_+_}
 use native.Mathlib.Omega.{arith}
 use lib.ListN.{drop}
 use lib.Seq.{take-take}
@@ -15,7 +13,12 @@ returns : tie.Need-returns
 unfolding bdAddrOf
 returns c =
     let a = c .before .before .before .args in
-    rw (take-take 4 6 (drop (a .at) (now (a .s))) (omega arith), within-part 2 4 6 (a .at) (now (a .s)) (omega arith), ← c .before .read-u32 .ensures, ← c .read-u16 .ensures)
+    rw (
+      take-take 4 6 (drop (a .at) (now (a .s))) (omega arith),
+      within-part 2 4 6 (a .at) (now (a .s)) (omega arith),
+      ← c .before .read-u32 .ensures,
+      ← c .read-u16 .ensures,
+    )
 
 pub read-bd-addr-spec : {M : Type 1} → statement M
 read-bd-addr-spec =

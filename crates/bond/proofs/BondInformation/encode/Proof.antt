@@ -1,6 +1,6 @@
 -- `bond::BondInformation::encode` meets its contract. Assumes nothing.
 use mathlib.Core.Path.{_≡_, refl}
-use mathlib.Core.List.{List, [], _∷_, _++_}
+use mathlib.Core.List.{List, _∷_, _++_}
 use Prim.Native.Nat.{ℕ}
 use Rattle.octets.specs.Octets.{toOctets, octetsOf}
 use Rattle.octets.proofs.Lists.{readsFrom}

@@ -1,10 +1,9 @@
 -- `host::list::check` meets its contract. Assumes nothing.
 use mathlib.Core.Logic.{⊎-elim}
 use mathlib.Core.Path.{_≡_, refl, sym, ap, _∙_}
-use Prim.Native.Nat.{_+_, _-_, _≤_}
+use Prim.Native.Nat.{_-_}
 use native.Mathlib.Omega.{arith}
 use lib.ListN.{length}
-use denote.Ref.{now}
 use Rattle.host.specs.Calls.{bodySize}
 use Rattle.host.specs.CallList.{checkedOf}
 use Rattle.host.proofs.Listing.{Seen, seen-none, seen-unknown, seen-cut, seen-more, seen-all, last-here, not-last, same-call}

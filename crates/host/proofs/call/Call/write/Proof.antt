@@ -1,8 +1,6 @@
 -- `host::call::Call::write` meets its contract. Assumes nothing.
 use mathlib.Core.List.{[], _∷_}
-use Prim.Native.Nat.{_+_, _≤_, _<_}
 use native.Mathlib.Omega.{arith}
-use lib.ListN.{length}
 use denote.Ref.{now}
 use Rattle.octets.proofs.Parts.{left-out, written-then}
 use Rattle.host.specs.Calls.{kindOf, bodyOf, callOctets}

@@ -1,14 +1,11 @@
 -- `host::call::Trace::write` meets its contract. Assumes nothing.
-use mathlib.Core.Path.{_≡_, sym, ap, _∙_}
-use mathlib.Core.List.{List}
-use Prim.Native.Nat.{ℕ, _+_, _-_, _≤_}
-use native.Mathlib.Nat.{zero-add}
+use mathlib.Core.Path.{_≡_}
+use Prim.Native.Nat.{_-_}
 use native.Mathlib.Omega.{arith}
 use lib.ListN.{length, take, length-map}
 use denote.Ref.{now}
-use Rattle.octets.proofs.Parts.{left-out, fits, length-written}
+use Rattle.octets.proofs.Parts.{left-out}
 use Rattle.host.specs.Calls.{allOctets, listed, mostCalls}
-use Rattle.host.specs.declared.call.Slot.{Slot}
 use Rattle.host.proofs.Writing.{Laid, call-short, count-none, lay-none, lay-more, lay-all, listed-most, listed-first}
 use borrow.Author.Needs.{needs}
 use Rattle.host.proofs.call.Trace.write.Statement.{statement}
