@@ -3,7 +3,8 @@
 ghost use mathlib.Core.Path.{_≡_};
 ghost use Rattle.host.specs.Calls.{questionKind};
 ghost use Rattle.answer.specs.Answers.{bodyAt, framed, verdictAt, flagAt, irkAt, addressAt, nonceAt, passKeyAt, ltkAt, edivAt, randAt, encryptionAt, bondedAt};
-ghost use Rattle.answer.specs.Answers.{verdictAnswer, flagAnswer, irkAnswer, addressAnswer, nonceAnswer, passKeyAnswer, ltkAnswer, edivAnswer, randAnswer, encryptionAnswer, bondedAnswer, Within};
+ghost use Rattle.answer.specs.Answers.{verdictAnswer, flagAnswer, irkAnswer, addressAnswer, nonceAnswer, passKeyAnswer};
+ghost use Rattle.answer.specs.Answers.{ltkAnswer, edivAnswer, randAnswer, encryptionAnswer, bondedAnswer, Within};
 use bond::Address;
 use bond::BondInformation;
 use bond::Error;
