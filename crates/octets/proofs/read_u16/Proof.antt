@@ -3,6 +3,7 @@ use mathlib.Core.Path.{sym, ap, _∙_}
 use denote.Ref.{now}
 use Rattle.octets.specs.Octets.{fromOctets}
 use Rattle.octets.proofs.Lists.{reads-at}
+use native.Mathlib.Omega.{arith}
 use borrow.Author.Needs.{needs}
 use Rattle.octets.proofs.read_u16.Statement.{statement}
 use Rattle.octets.proofs.read_u16.Tie as tie
@@ -16,8 +17,8 @@ pub read-u16-spec : {M : Type 1} → statement M
 read-u16-spec =
     tie.close
     (tie.spec
-    (λ c. search needs)
-    (λ c. search needs)
-    (λ c. search needs)
+    (λ c. omega arith)
+    (λ c. omega arith)
+    (λ c. omega arith)
     (λ c κs. search needs)
     returns)
