@@ -3,7 +3,6 @@ use mathlib.Core.Path.{sym}
 use denote.Ref.{now}
 use Rattle.octets.proofs.Lists.{reads-at}
 use native.Mathlib.Omega.{arith}
-use borrow.Author.Needs.{needs}
 use Rattle.octets.proofs.read_16.Statement.{statement}
 use Rattle.octets.proofs.read_16.Tie as tie
 
