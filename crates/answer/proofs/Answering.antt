@@ -23,7 +23,7 @@ module _ (s : List ℕ) (size : ℕ) (f : Frame) {x : Found (List ℕ)} where
 pub body-within : (s : List ℕ) (size : ℕ) (f : Frame) {b : ℕ} → Within s size f → f ≡ Body b → b + size ≤ length s
 body-within s size f w t = subst (Within s size) t w
 
--- ---- the first octet of a body, and what follows it
+-- ---- the first octet of a body
 
 pub first-octet : (n b : ℕ) (s : List ℕ) → 0 < n → getD (take n (drop b s)) 0 0 ≡ getD s b 0
 first-octet n b s h = element-of-part 0 n b s h ∙ ap (λ (k : ℕ). getD s k 0) (add-zero b)

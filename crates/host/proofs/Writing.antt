@@ -1,4 +1,4 @@
--- Laws of calls as octets: how long they are, and that none are written where there are none. Assumes nothing.
+-- Laws of calls as octets: how long they are, and a loop that writes them one after another. Assumes nothing.
 use mathlib.Core.Path.{_≡_, refl, sym, ap, ap₂, _∙_}
 use mathlib.Core.Bool.{Bool, true, false, cond}
 use mathlib.Core.Option.{Option, none, some}
@@ -124,7 +124,7 @@ some-none e = let z : _≡_ {A = ℕ} 0 1 = cc in omega arith
 
 -- ---- calls one after another
 
--- the calls of a trace are at most eleven
+-- what was taken, taken by its number
 pub take-count : {A : Type 0} (n : ℕ) (l : List A) → take (length (take n l)) l ≡ take n l
 take-count zero l = refl
 take-count (suc n) [] = refl
