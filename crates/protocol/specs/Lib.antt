@@ -1,0 +1,6 @@
+pub mod Program
+pub mod Ops
+pub mod Handlers
+pub mod LegacyPeripheral
+pub mod LegacyCentral
+pub mod Step
