@@ -4,3 +4,5 @@ pub mod Handlers
 pub mod LegacyPeripheral
 pub mod LegacyCentral
 pub mod Step
+pub mod FairLink
+pub mod FairRuns

@@ -1,0 +1,379 @@
+-- The fair link, document 01's section of that name ("The fair link of demand 3"), in its order. The terminal is the
+-- central, the head the peripheral. Assumes nothing.
+use Prim.Native.Nat.{ℕ, zero, suc, _≤_, _<_}
+use mathlib.Core.Path.{_≡_}
+use mathlib.Core.Bool.{Bool, true, false, cond, not, _&&_, _||_}
+use mathlib.Core.List.{List, [], _∷_, _++_}
+use mathlib.Core.Option.{Option, none, some}
+use lib.Dec.{eqb}
+use lib.ListN.{length, drop, replicate}
+use Rattle.octets.specs.declared.Word128.{Word128}
+use Rattle.types.specs.Types.{commandCode, defaultFeatures, featureOctets, leastKeySize, largestKeySize}
+use Rattle.types.specs.declared.types.Command.the-variants as command
+use Rattle.types.specs.declared.types.KeyDistributionFlags.{KeyDistributionFlags}
+use Rattle.types.specs.declared.types.PairingFeatures.{PairingFeatures}
+use Rattle.util.specs.declared.util.PairingMethod.{PairingMethod}
+use Rattle.util.specs.declared.util.PairingMethod.the-variants as method
+use Rattle.util.specs.declared.util.PassKeyEntryAction.the-variants as action
+use Rattle.bond.specs.declared.Address.{Address}
+use Rattle.bond.specs.declared.OptionBond.the-variants as option
+use Rattle.host.specs.Calls.{packetCommand, packetBody, kindOf}
+use Rattle.host.specs.declared.call.Call.{Call}
+use Rattle.host.specs.declared.call.Call.the-variants as call
+use Rattle.answer.specs.Answers.{passKeyMax}
+use Rattle.answer.specs.declared.AddressResult.{AddressResult}
+use Rattle.answer.specs.declared.AddressResult.the-variants as address-result
+use Rattle.answer.specs.declared.BondResult.{BondResult}
+use Rattle.answer.specs.declared.BondResult.the-variants as bond-result
+use Rattle.answer.specs.declared.OptionBondResult.{OptionBondResult}
+use Rattle.answer.specs.declared.OptionBondResult.the-variants as option-result
+use Rattle.machine.specs.Machine.{newMachine, lescSwitch}
+use Rattle.machine.specs.declared.Event.the-variants as event
+use Rattle.machine.specs.declared.Input.{Input}
+use Rattle.machine.specs.declared.Input.the-variants as input
+use Rattle.machine.specs.declared.Machine.{Machine}
+use Rattle.machine.specs.declared.PairingData.{PairingData}
+use Rattle.machine.specs.declared.Role.{Role}
+use Rattle.machine.specs.declared.Role.the-variants.{Central, Peripheral}
+use Rattle.protocol.specs.declared.Outcome.{Outcome}
+use Rattle.protocol.specs.declared.Outcome.the-variants as outcome
+use Rattle.protocol.specs.Program.{ret, ask, Taken, got, wants, refused}
+use Rattle.protocol.specs.Ops.{Delivery, delivered, Sort, aVerdict, aFlag, anIrk, anAddress, aNonce, aPassKey, anLtk, anEdiv, aRand, aBond, anOptionBond, Holds, replySort, Reply, replyAt, Program}
+use Rattle.protocol.specs.Handlers.{namesEncryptionKey, namesIdentityKey}
+use Rattle.protocol.specs.Step.{handleInput, playOf, Step, longest, step}
+
+-- ---- Fresh
+
+-- what is free at the start: the terminal's record, which is the one in its request, the head's, and both addresses
+pub record Start : Type 0 where
+  pub request : PairingFeatures
+  pub headFeatures : PairingFeatures
+  pub terminalAddress : Address
+  pub headAddress : Address
+
+-- no bond; the peer's features and the method as the Rust's constructor sets them
+abbrev pub freshData : Address → Address → PairingFeatures → PairingData
+freshData local peer features =
+    record {
+      «local_address» = local;
+      «peer_address» = peer;
+      «local_features» = features;
+      «peer_features» = defaultFeatures;
+      «pairing_method» = method.JustWorks;
+      «bond_information» = option.None;
+    }
+
+-- the terminal waits for the response to its request
+unfoldable pub freshTerminal : Start → Machine
+freshTerminal s = lescSwitch (freshData (s .terminalAddress) (s .headAddress) (s .request))
+
+-- the head waits for the request; addresses match crosswise
+unfoldable pub freshHead : Start → Machine
+freshHead s = newMachine (freshData (s .headAddress) (s .terminalAddress) (s .headFeatures))
+
+-- every octet is below 256
+abbrev pub AreOctets : List ℕ → Type 0
+AreOctets [] = Unit {0}
+AreOctets (x ∷ l) = (x < 256) × AreOctets l
+
+-- of the keys 0x01 and 0x02, the first flags name none that the second lack
+pub record NamesNoMore (flags others : KeyDistributionFlags) : Type 0 where
+  pub encryption : namesEncryptionKey flags ≡ true → namesEncryptionKey others ≡ true
+  pub identity : namesIdentityKey flags ≡ true → namesIdentityKey others ≡ true
+
+-- key sizes are 7 to 16; the head's starting flags name no initiator key that the request lacks
+pub record FairStart (s : Start) : Type 0 where
+  pub requestOctets : AreOctets (featureOctets (s .request))
+  pub headOctets : AreOctets (featureOctets (s .headFeatures))
+  pub requestSizeLeast : leastKeySize ≤ s .request .«maximum_encryption_key_size»
+  pub requestSizeLargest : s .request .«maximum_encryption_key_size» ≤ largestKeySize
+  pub headSizeLeast : leastKeySize ≤ s .headFeatures .«maximum_encryption_key_size»
+  pub headSizeLargest : s .headFeatures .«maximum_encryption_key_size» ≤ largestKeySize
+  pub headFlags : NamesNoMore (s .headFeatures .«initiator_key_distribution») (s .request .«initiator_key_distribution»)
+
+-- ---- what both ends' people and hosts share
+
+-- OOB data is equal at both ends. Passkeys typed are equal to each other and to any shown or drawn to be shown, before or
+-- after: one number in a run. Where the method has an end show it, that is `shown`, at most 999,999, else `typed`, which is
+-- free. (There are two, since a start does not yet fix the method: the head's host may answer that OOB data is available.)
+pub record Shared : Type 0 where
+  pub oob : Word128
+  pub shown : ℕ
+  pub typed : ℕ
+  pub shownLeast : shown ≤ passKeyMax
+
+-- whether the method has an end show the passkey
+abbrev pub shows : PairingMethod → Bool
+shows method.JustWorks = false
+shows method.NumericComparison = false
+shows (method.PassKeyEntry action.Display p) = true
+shows (method.PassKeyEntry action.Input action.Display) = true
+shows (method.PassKeyEntry action.Input action.Input) = false
+shows method.OutOfBand = false
+
+-- the passkey typed at an end, by the method that its machine holds
+abbrev pub passKeyTyped : Shared → Machine → ℕ
+passKeyTyped w m = cond (shows (m .«pairing_data» .«pairing_method»)) (w .shown) (w .typed)
+
+-- all verdicts are 0, and a passkey that is drawn is the one shown; all other answers are free
+abbrev pub addressGiven : AddressResult → Type 0
+addressGiven (address-result.Ok a) = Unit {0}
+addressGiven (address-result.Err e) = ⊥
+
+abbrev pub bondGiven : BondResult → Type 0
+bondGiven (bond-result.Ok b) = Unit {0}
+bondGiven (bond-result.Err e) = ⊥
+
+abbrev pub optionBondGiven : OptionBondResult → Type 0
+optionBondGiven (option-result.Ok b) = Unit {0}
+optionBondGiven (option-result.Err e) = ⊥
+
+abbrev pub FairReply : Shared → (κ : Sort) → Holds κ → Type 0
+FairReply w aVerdict x = x ≡ delivered
+FairReply w aFlag x = Unit {0}
+FairReply w anIrk x = Unit {0}
+FairReply w anAddress x = addressGiven x
+FairReply w aNonce x = Unit {0}
+FairReply w aPassKey x = x .0 ≡ w .shown
+FairReply w anLtk x = Unit {0}
+FairReply w anEdiv x = Unit {0}
+FairReply w aRand x = Unit {0}
+FairReply w aBond x = bondGiven x
+FairReply w anOptionBond x = optionBondGiven x
+
+-- no host answer meets a condition of refusal 3
+abbrev pub FairTaken : Shared → (κ : Sort) → (Holds κ → ℕ → Type 0) → Taken (Holds κ) → Type 0
+FairTaken w κ next (got x n) = FairReply w κ x × next x n
+FairTaken w κ next wants = Unit {0}
+FairTaken w κ next refused = ⊥
+
+-- the answers to a step, each that is reached
+abbrev pub FairAnswers : Shared → Program Machine → List ℕ → ℕ → Type 0
+FairAnswers w (ret m) s at = Unit {0}
+FairAnswers w (ask c k) s at = FairTaken w (replySort c) (λ x n. FairAnswers w (k x) s n) (replyAt c s at)
+
+-- ---- The link
+
+pub record Packet : Type 0 where
+  pub code : ℕ
+  pub payload : List ℕ
+
+-- the events that may be due: a typed passkey, the OOB data, the report that encryption is on
+pub data Due : Type 0 where
+  passKey oobData encryptionOn : Due
+
+-- what an end gets as an input: a packet or an event; no other input occurs
+pub data Given : Type 0 where
+  aPacket : Packet → Given
+  anEvent : Due → Given
+
+abbrev pub inputOf : Shared → Machine → Given → Input
+inputOf w m (aPacket p) = input.Command (p .code)
+inputOf w m (anEvent passKey) = input.Event (event.PassKeyInput (passKeyTyped w m))
+inputOf w m (anEvent oobData) = input.Event (event.OobDataReceived (w .oob))
+inputOf w m (anEvent encryptionOn) = input.Event (event.LinkEncryptedResult true)
+
+abbrev pub payloadOf : Given → List ℕ
+payloadOf (aPacket p) = p .payload
+payloadOf (anEvent e) = []
+
+-- an open step: its input, and the host answers that it has had
+pub record OpenStep : Type 0 where
+  pub given : Given
+  pub answers : List ℕ
+
+-- each end has its machine, the packets queued to it, the events due, and its open step, if any. Beside them stand the
+-- calls that it has listed so far, and whether it has had its OOB data
+pub record End : Type 0 where
+  pub machine : Machine
+  pub queue : List Packet
+  pub due : List Due
+  pub openStep : Option OpenStep
+  pub calls : List Call
+  pub hadOob : Bool
+
+pub record Link : Type 0 where
+  pub terminal : End
+  pub head : End
+
+abbrev pub endOf : Role → Link → End
+endOf Central L = L .terminal
+endOf Peripheral L = L .head
+
+abbrev pub other : Role → Role
+other Central = Peripheral
+other Peripheral = Central
+
+-- the link of an end and the other end
+abbrev pub linkOf : Role → End → End → Link
+linkOf Central this that = record { terminal = this; head = that }
+linkOf Peripheral this that = record { terminal = that; head = this }
+
+abbrev pub freshEnd : Machine → List Packet → End
+freshEnd m queue = record { machine = m; queue = queue; due = []; openStep = none; calls = []; hadOob = false }
+
+-- at the start only the request is queued, to the head
+unfoldable pub freshLink : Start → Link
+freshLink s =
+    record {
+      terminal = freshEnd (freshTerminal s) [];
+      head = freshEnd (freshHead s) (record { code = commandCode command.PairingRequest; payload = featureOctets (s .request) } ∷ []);
+    }
+
+-- ---- What a call does, when it is first listed
+
+-- a packet joins the other end's queue
+abbrev pub sentBy : Call → List Packet
+sentBy (call.SendPacket p) = record { code = commandCode (packetCommand p); payload = packetBody p } ∷ []
+sentBy (call.SendConnectionEvent e) = []
+sentBy (call.Ask q) = []
+sentBy (call.Draw d) = []
+sentBy (call.EnableEncryption k l n) = []
+sentBy call.EnableBondedEncryption = []
+sentBy (call.UpdateBondInformation b) = []
+
+abbrev pub sentByAll : List Call → List Packet
+sentByAll [] = []
+sentByAll (c ∷ cs) = sentBy c ++ sentByAll cs
+
+-- whether a call of this kind is among those listed
+abbrev pub hasListed : ℕ → List Call → Bool
+hasListed kind [] = false
+hasListed kind (c ∷ cs) = eqb (kindOf c) kind || hasListed kind cs
+
+-- the first call of this kind makes this event due
+abbrev pub firstMakes : ℕ → Due → List Call → Call → List Due
+firstMakes kind e before c = cond (eqb (kindOf c) kind && not (hasListed kind before)) (e ∷ []) []
+
+-- an end's first 0x23 makes the typed passkey due there, its first 0x25 the OOB data, its first 0x3A the report
+abbrev pub madeDueBy : List Call → Call → List Due
+madeDueBy before c = firstMakes 0x23 passKey before c ++ (firstMakes 0x25 oobData before c ++ firstMakes 0x3A encryptionOn before c)
+
+abbrev pub madeDueByAll : List Call → List Call → List Due
+madeDueByAll before [] = []
+madeDueByAll before (c ∷ cs) = madeDueBy before c ++ madeDueByAll (before ++ (c ∷ [])) cs
+
+-- ---- A step of an end, by the definition of a step; its list is long enough for any
+
+unfoldable pub stepAt : Shared → Role → Machine → Given → List ℕ → Step
+stepAt w r m g answers = step r m (inputOf w m g) (payloadOf g) answers (replicate longest 0)
+
+unfoldable pub callsAt : Shared → Role → Machine → Given → List ℕ → List Call
+callsAt w r m g answers = playOf r m (inputOf w m g) (payloadOf g) answers .calls
+
+-- any host answers or none, so long as they are fair
+pub record FairHost (w : Shared) (r : Role) (m : Machine) (g : Given) (answers : List ℕ) : Type 0 where
+  pub octets : AreOctets answers
+  pub fair : FairAnswers w (handleInput r m (inputOf w m g) (payloadOf g)) answers 0
+
+-- a step that wants is open
+abbrev pub openAfter : Outcome → Given → List ℕ → Option OpenStep
+openAfter outcome.Ended g answers = none
+openAfter outcome.Wants g answers = some (record { given = g; answers = answers })
+openAfter (outcome.Refused n) g answers = none
+
+abbrev pub hadOobAfter : Given → Bool → Bool
+hadOobAfter (aPacket p) had = had
+hadOobAfter (anEvent passKey) had = had
+hadOobAfter (anEvent oobData) had = true
+hadOobAfter (anEvent encryptionOn) had = had
+
+-- an end behind its step, with these packets and events left: the step's machine, the calls that are new
+abbrev pub endAfter : Shared → Role → End → Given → List ℕ → List Packet → List Due → List Call → End
+endAfter w r e g answers queue due new =
+    record {
+      machine = stepAt w r (e .machine) g answers .stepped .machine;
+      queue = queue;
+      due = due ++ madeDueByAll (e .calls) new;
+      openStep = openAfter (stepAt w r (e .machine) g answers .stepped .outcome) g answers;
+      calls = e .calls ++ new;
+      hadOob = hadOobAfter g (e .hadOob);
+    }
+
+-- the other end: what is sent joins its queue, and nothing else changes
+abbrev pub receives : List Call → End → End
+receives new e =
+    record {
+      machine = e .machine;
+      queue = e .queue ++ sentByAll new;
+      due = e .due;
+      openStep = e .openStep;
+      calls = e .calls;
+      hadOob = e .hadOob;
+    }
+
+abbrev pub linkAfter : Shared → Role → Link → Given → List ℕ → List Packet → List Due → List Call → Link
+linkAfter w r L g answers queue due new =
+    linkOf r (endAfter w r (endOf r L) g answers queue due new) (receives new (endOf (other r) L))
+
+-- ---- A move
+
+abbrev pub isReport : Due → Bool
+isReport passKey = false
+isReport oobData = false
+isReport encryptionOn = true
+
+-- an end whose report is due gets no packet as input
+abbrev pub reportDue : List Due → Bool
+reportDue [] = false
+reportDue (e ∷ l) = isReport e || reportDue l
+
+-- the head gets its OOB data before the terminal does
+abbrev pub MayTake : Link → Role → Due → Type 0
+MayTake L Central passKey = Unit {0}
+MayTake L Central oobData = L .head .hadOob ≡ true
+MayTake L Central encryptionOn = Unit {0}
+MayTake L Peripheral e = Unit {0}
+
+-- a move of either end, from a link to the next; true where it is an input. Otherwise any move is allowed at any time
+pub data Move (w : Shared) (L : Link) : Bool → Link → Type 0 where
+  -- an end with no open step gets its oldest queued packet, which leaves the queue
+  takePacket :
+    (r : Role) (p : Packet) (queue : List Packet) (answers : List ℕ) →
+    endOf r L .openStep ≡ none → endOf r L .queue ≡ p ∷ queue → reportDue (endOf r L .due) ≡ false →
+    FairHost w r (endOf r L .machine) (aPacket p) answers →
+    Move w L true (linkAfter w r L (aPacket p) answers queue (endOf r L .due) (callsAt w r (endOf r L .machine) (aPacket p) answers))
+  -- .. or an event due there, which is due no more
+  takeEvent :
+    (r : Role) (e : Due) (earlier later : List Due) (answers : List ℕ) →
+    endOf r L .openStep ≡ none → endOf r L .due ≡ earlier ++ (e ∷ later) → MayTake L r e →
+    FairHost w r (endOf r L .machine) (anEvent e) answers →
+    Move w L true
+    (linkAfter w r L (anEvent e) answers (endOf r L .queue) (earlier ++ later) (callsAt w r (endOf r L .machine) (anEvent e) answers))
+  -- an open step is run again on the machine and input it had, its host answers kept and at least one added; a call counts
+  -- once, when first listed
+  runAgain :
+    (r : Role) (g : Given) (kept : List ℕ) (x : ℕ) (added : List ℕ) →
+    endOf r L .openStep ≡ some (record { given = g; answers = kept }) →
+    FairHost w r (endOf r L .machine) g (kept ++ (x ∷ added)) →
+    Move w L false
+    (linkAfter w r L g (kept ++ (x ∷ added)) (endOf r L .queue) (endOf r L .due)
+    (drop (length (callsAt w r (endOf r L .machine) g kept)) (callsAt w r (endOf r L .machine) g (kept ++ (x ∷ added)))))
+
+-- the outcome of its step
+abbrev pub outcomeOf : {w : Shared} {L L₁ : Link} {i : Bool} → Move w L i L₁ → Outcome
+outcomeOf {w} {L} (takePacket r p queue answers o q d f) = stepAt w r (endOf r L .machine) (aPacket p) answers .stepped .outcome
+outcomeOf {w} {L} (takeEvent r e earlier later answers o q d f) = stepAt w r (endOf r L .machine) (anEvent e) answers .stepped .outcome
+outcomeOf {w} {L} (runAgain r g kept x added o f) = stepAt w r (endOf r L .machine) g (kept ++ (x ∷ added)) .stepped .outcome
+
+-- ---- Lists of moves, and runs
+
+abbrev pub countInput : Bool → ℕ → ℕ
+countInput true n = suc n
+countInput false n = n
+
+-- a list of allowed moves: how many they are, and how many of them are inputs
+pub data Moves (w : Shared) : Link → ℕ → ℕ → Link → Type 0 where
+  noMove : {L : Link} → Moves w L zero zero L
+  move : {L L₁ L₂ : Link} {i : Bool} {moves inputs : ℕ} → Move w L i L₁ → Moves w L₁ moves inputs L₂ → Moves w L (suc moves) (countInput i inputs) L₂
+
+-- a run is a list of allowed moves after which none is allowed
+pub record Run (w : Shared) (L : Link) (moves inputs : ℕ) (L₁ : Link) : Type 0 where
+  pub all : Moves w L moves inputs L₁
+  pub over : (i : Bool) (L₂ : Link) → Move w L₁ i L₂ → ⊥
+
+-- nothing is queued, due or open
+pub record Idle (e : End) : Type 0 where
+  pub noneQueued : e .queue ≡ []
+  pub noneDue : e .due ≡ []
+  pub noneOpen : e .openStep ≡ none
