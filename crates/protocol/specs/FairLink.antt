@@ -1,5 +1,6 @@
--- The fair link, document 01's section of that name ("The fair link of demand 3"), in its order. The terminal is the
--- central, the head the peripheral. Assumes nothing.
+-- The fair link, document 01's section "The fair link of demand 3", up to the word "run"; what it claims of runs stands in
+-- FairRuns. It goes in the section's order, but that a word stands before it is used. The terminal is the central, the head
+-- the peripheral. Assumes nothing.
 use Prim.Native.Nat.{ℕ, zero, suc, _≤_, _<_}
 use mathlib.Core.Path.{_≡_}
 use mathlib.Core.Bool.{Bool, true, false, cond, not, _&&_, _||_}
@@ -44,14 +45,14 @@ use Rattle.protocol.specs.Step.{handleInput, playOf, Step, longest, step
 
 -- ---- Fresh
 
--- what is free at the start: the terminal's record, which is the one in its request, the head's, and both addresses
+-- records and addresses are free: the terminal's record, which is the one in its request, the head's, both addresses
 pub record Start : Type 0 where
   pub request : PairingFeatures
   pub headFeatures : PairingFeatures
   pub terminalAddress : Address
   pub headAddress : Address
 
--- no bond; the peer's features and the method as the Rust's constructor sets them
+-- no bond; all else is as the Rust's constructor sets it
 abbrev pub freshData : Address → Address → PairingFeatures → PairingData
 freshData local peer features =
     record {
@@ -141,7 +142,7 @@ FairReply w aRand x = Unit {0}
 FairReply w aBond x = bondGiven x
 FairReply w anOptionBond x = optionBondGiven x
 
--- no host answer meets a condition of refusal 3
+-- no host answer meets the condition of refusal 3
 abbrev pub FairTaken : Shared → (κ : Sort) → (Holds κ → ℕ → Type 0) → Taken (Holds κ) → Type 0
 FairTaken w κ next (got x n) = FairReply w κ x × next x n
 FairTaken w κ next wants = Unit {0}
@@ -253,7 +254,8 @@ abbrev pub madeDueByAll : List Call → List Call → List Due
 madeDueByAll before [] = []
 madeDueByAll before (c ∷ cs) = madeDueBy before c ++ madeDueByAll (before ++ (c ∷ [])) cs
 
--- ---- A step of an end, by the definition of a step; its list is long enough for any
+-- ---- A step of an end, by the definition of a step. Its list is long enough for any, so that none is refused by 1; that
+-- none is refused at all is claimed in FairRuns
 
 unfoldable pub stepAt : Shared → Role → Machine → Given → List ℕ → Step
 stepAt w r m g answers = step r m (inputOf w m g) (payloadOf g) answers (replicate longest 0)
@@ -261,12 +263,12 @@ stepAt w r m g answers = step r m (inputOf w m g) (payloadOf g) answers (replica
 unfoldable pub callsAt : Shared → Role → Machine → Given → List ℕ → List Call
 callsAt w r m g answers = playOf r m (inputOf w m g) (payloadOf g) answers .calls
 
--- any host answers or none, so long as they are fair
+-- any host answers or none, so long as those that the step reaches are fair; what is left over is free
 pub record FairHost (w : Shared) (r : Role) (m : Machine) (g : Given) (answers : List ℕ) : Type 0 where
   pub octets : AreOctets answers
   pub fair : FairAnswers w (handleInput r m (inputOf w m g) (payloadOf g)) answers 0
 
--- a step that wants is open
+-- a step that wants is open, with its input and answers
 abbrev pub openAfter : Outcome → Given → List ℕ → Option OpenStep
 openAfter outcome.Ended g answers = none
 openAfter outcome.Wants g answers = some (record { given = g; answers = answers })
@@ -278,7 +280,8 @@ hadOobAfter (anEvent passKey) had = had
 hadOobAfter (anEvent oobData) had = true
 hadOobAfter (anEvent encryptionOn) had = had
 
--- an end behind its step, with these packets and events left: the step's machine, the calls that are new
+-- an end after its step, with the packets and events that are left, and the calls that are new. The machine is the one
+-- that the step gives back: where it ends, the one for that end's next input; where it wants, the one that it had
 abbrev pub endAfter : Shared → Role → End → Given → List ℕ → List Packet → List Due → List Call → End
 endAfter w r e g answers queue due new =
     record {
@@ -290,7 +293,7 @@ endAfter w r e g answers queue due new =
       hadOob = hadOobAfter g (e .hadOob);
     }
 
--- the other end: what is sent joins its queue, and nothing else changes
+-- the other end: what is sent joins its queue. Nothing else changes, its machine least of all
 abbrev pub receives : List Call → End → End
 receives new e =
     record {
@@ -325,30 +328,31 @@ MayTake L Central oobData = L .head .hadOob ≡ true
 MayTake L Central encryptionOn = Unit {0}
 MayTake L Peripheral e = Unit {0}
 
--- a move of either end, from a link to the next; true where it is an input. Otherwise any move is allowed at any time
+-- a move of either end, of two kinds, from a link to the next; true where it is an input, the first kind. All that is
+-- asked of a move stands in its case: otherwise any is allowed at any time
 pub data Move (w : Shared) (L : Link) : Bool → Link → Type 0 where
   -- an end with no open step gets its oldest queued packet, which leaves the queue
   takePacket :
-    (r : Role) (p : Packet) (queue : List Packet) (answers : List ℕ) →
-    endOf r L .openStep ≡ none → endOf r L .queue ≡ p ∷ queue → reportDue (endOf r L .due) ≡ false →
-    FairHost w r (endOf r L .machine) (aPacket p) answers →
-    Move w L true (linkAfter w r L (aPacket p) answers queue (endOf r L .due) (callsAt w r (endOf r L .machine) (aPacket p) answers))
+      (r : Role) (p : Packet) (queue : List Packet) (answers : List ℕ) →
+      endOf r L .openStep ≡ none → endOf r L .queue ≡ p ∷ queue → reportDue (endOf r L .due) ≡ false →
+      FairHost w r (endOf r L .machine) (aPacket p) answers →
+      Move w L true (linkAfter w r L (aPacket p) answers queue (endOf r L .due) (callsAt w r (endOf r L .machine) (aPacket p) answers))
   -- .. or an event due there, which is due no more
   takeEvent :
-    (r : Role) (e : Due) (earlier later : List Due) (answers : List ℕ) →
-    endOf r L .openStep ≡ none → endOf r L .due ≡ earlier ++ (e ∷ later) → MayTake L r e →
-    FairHost w r (endOf r L .machine) (anEvent e) answers →
-    Move w L true
-    (linkAfter w r L (anEvent e) answers (endOf r L .queue) (earlier ++ later) (callsAt w r (endOf r L .machine) (anEvent e) answers))
+      (r : Role) (e : Due) (earlier later : List Due) (answers : List ℕ) →
+      endOf r L .openStep ≡ none → endOf r L .due ≡ earlier ++ (e ∷ later) → MayTake L r e →
+      FairHost w r (endOf r L .machine) (anEvent e) answers →
+      Move w L true
+      (linkAfter w r L (anEvent e) answers (endOf r L .queue) (earlier ++ later) (callsAt w r (endOf r L .machine) (anEvent e) answers))
   -- an open step is run again on the machine and input it had, its host answers kept and at least one added; a call counts
   -- once, when first listed
   runAgain :
-    (r : Role) (g : Given) (kept : List ℕ) (x : ℕ) (added : List ℕ) →
-    endOf r L .openStep ≡ some (record { given = g; answers = kept }) →
-    FairHost w r (endOf r L .machine) g (kept ++ (x ∷ added)) →
-    Move w L false
-    (linkAfter w r L g (kept ++ (x ∷ added)) (endOf r L .queue) (endOf r L .due)
-    (drop (length (callsAt w r (endOf r L .machine) g kept)) (callsAt w r (endOf r L .machine) g (kept ++ (x ∷ added)))))
+      (r : Role) (g : Given) (kept : List ℕ) (x : ℕ) (added : List ℕ) →
+      endOf r L .openStep ≡ some (record { given = g; answers = kept }) →
+      FairHost w r (endOf r L .machine) g (kept ++ (x ∷ added)) →
+      Move w L false
+      (linkAfter w r L g (kept ++ (x ∷ added)) (endOf r L .queue) (endOf r L .due)
+      (drop (length (callsAt w r (endOf r L .machine) g kept)) (callsAt w r (endOf r L .machine) g (kept ++ (x ∷ added)))))
 
 -- the outcome of its step
 abbrev pub outcomeOf : {w : Shared} {L L₁ : Link} {i : Bool} → Move w L i L₁ → Outcome

@@ -1,5 +1,5 @@
--- Demand 3 as document 01 has it: every fair run ends, and how. What the words of the claim mean, then the claim, of whole
--- lists of moves. Assumes nothing.
+-- Demand 3, the rest of document 01's section "The fair link of demand 3": what every run from a fair start comes to. First
+-- the words of the claim, in the section's order, then the claim, which is one of whole lists of moves. Assumes nothing.
 use Prim.Native.Nat.{ℕ, _+_, _*_, _≤_}
 use mathlib.Core.Path.{_≡_}
 use mathlib.Core.Bool.{Bool, true, false, cond, not, _&&_}
@@ -111,10 +111,10 @@ encryptionsIn (c ∷ cs) = encryptionIn c ++ encryptionsIn cs
 pub record WaitsForIdentityKey (m : Machine) : Type 0 where
   pub pending : resultOf (m .phase) ≡ result.Pending
   pub reads :
-    (payload : List ℕ) → length payload ≡ 16 →
-    let s = step Peripheral m (input.Command (commandCode command.IdentityInformation)) payload [] (replicate longest 0) .stepped in
-    (s .outcome ≡ outcome.Ended)
-    × ((b : BondInformation) × (s .machine .«pairing_data» .«bond_information» ≡ option.Some b) × (b .identity .irk .0 ≡ wordOf payload))
+      (payload : List ℕ) → length payload ≡ 16 →
+      let s = step Peripheral m (input.Command (commandCode command.IdentityInformation)) payload [] (replicate longest 0) .stepped in
+      (s .outcome ≡ outcome.Ended)
+      × ((b : BondInformation) × (s .machine .«pairing_data» .«bond_information» ≡ option.Some b) × (b .identity .irk .0 ≡ wordOf payload))
 
 -- the one excepted case: no common wish to bond, and the request names the terminal's identity key
 abbrev pub excepted : PairingFeatures → PairingFeatures → Bool
@@ -152,37 +152,38 @@ pub record RunEnds (request : PairingFeatures) (inputs : ℕ) (L : Link) : Type 
   pub encryption : Encryption
   pub terminalEncrypts : encryptionsIn (L .terminal .calls) ≡ encryption ∷ []
   pub headEncrypts : encryptionsIn (L .head .calls) ≡ encryption ∷ []
-  -- both stand in Success, but for the excepted case, in which the head waits for the identity key
+  -- both stand in Success, the state of that name of the machines, but for the excepted case, in which the head waits for
+  -- the identity key
   pub terminalEnds : L .terminal .machine .phase ≡ phase.Success
   pub headEnds : HeadEnds (excepted request answer) (L .head .machine)
   -- if both bond and the answer names the responder's encryption key, both bonds hold the same keys
   pub sameBonds :
-    bothBond request answer ≡ true → namesEncryptionKey (answer .«responder_key_distribution») ≡ true →
-    SameBonds (smaller (request .«maximum_encryption_key_size») (answer .«maximum_encryption_key_size»)) (L .terminal .machine) (L .head .machine)
+      bothBond request answer ≡ true → namesEncryptionKey (answer .«responder_key_distribution») ≡ true →
+      SameBonds (smaller (request .«maximum_encryption_key_size») (answer .«maximum_encryption_key_size»)) (L .terminal .machine) (L .head .machine)
 
 abbrev pub NotRefused : Outcome → Type 0
 NotRefused outcome.Ended = Unit {0}
 NotRefused outcome.Wants = Unit {0}
 NotRefused (outcome.Refused n) = ⊥
 
--- every run from a start ends
+-- every run from a start ends. (A run itself is a list of allowed moves after which none is allowed: FairLink.)
 pub record RunsEnd (w : Shared) (s : Start) : Type 0 where
   -- some number bounds the moves, re-runs included, of every list of allowed moves
   pub bound : ℕ
   pub bounded : (moves inputs : ℕ) (L : Link) → Moves w (freshLink s) moves inputs L → moves ≤ bound
   -- every list of allowed moves is the beginning of a run
   pub begins :
-    (moves inputs : ℕ) (L : Link) → Moves w (freshLink s) moves inputs L →
-    (more moreInputs : ℕ) × (L₁ : Link) × Run w L more moreInputs L₁
+      (moves inputs : ℕ) (L : Link) → Moves w (freshLink s) moves inputs L →
+      (more moreInputs : ℕ) × (L₁ : Link) × Run w L more moreInputs L₁
   -- no step on the way is refused
   pub accepted :
-    (moves inputs : ℕ) (L : Link) → Moves w (freshLink s) moves inputs L →
-    (i : Bool) (L₁ : Link) (x : Move w L i L₁) → NotRefused (outcomeOf x)
-  -- the inputs of any list of moves are at most 18
+      (moves inputs : ℕ) (L : Link) → Moves w (freshLink s) moves inputs L →
+      (i : Bool) (L₁ : Link) (x : Move w L i L₁) → NotRefused (outcomeOf x)
+  -- inputs, the moves of the first kind, are at most 18 in any list of moves
   pub fewInputs : (moves inputs : ℕ) (L : Link) → Moves w (freshLink s) moves inputs L → inputs ≤ 18
   -- what every run comes to
   pub comesTo : (moves inputs : ℕ) (L : Link) → Run w (freshLink s) moves inputs L → RunEnds (s .request) inputs L
 
--- demand 3
+-- demand 3: all starts, all orders of moves, all host answers, all passkeys and OOB data
 abbrev pub EveryFairRunEnds : Type 0
 EveryFairRunEnds = (w : Shared) (s : Start) → FairStart s → RunsEnd w s

@@ -516,7 +516,7 @@ pub enum Reading {
     Refused(u8),
 }
 
-// What reading a record gives. The machine of a refusal says nothing.
+// What reading a record gives. The machine of a refusal is a fresh head of no address.
 pub struct ReadMachine {
     pub reading: Reading,
     pub machine: Machine,
