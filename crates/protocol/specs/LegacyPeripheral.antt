@@ -1,6 +1,7 @@
 -- legacy_peripheral.rs, the responder: each of its functions as a program of host calls, under its name in «». What a
--- function calls stands before it, so the FSM core comes last; else the order is the file's. `result`, `is_encrypted` and
--- `new` stand with the machine. `mark_timeout` is left out with the timer. Assumes nothing.
+-- function calls stands before it, so the FSM core comes last; else the order is the file's. `enter`, `store_confirm_bytes`,
+-- `handle_encryption_information` and `handle_identity_information`, in the same words in both files, stand in Handlers;
+-- `result`, `is_encrypted` and `new` stand with the machine; `mark_timeout` is left out with the timer. Assumes nothing.
 use Prim.Native.Nat.{ℕ}
 use mathlib.Core.Bool.{Bool, true, false, cond, not, _&&_}
 use mathlib.Core.List.{List}
