@@ -9,7 +9,7 @@ use Rattle.types.specs.declared.types.Command.the-variants as command
 use Rattle.answer.specs.Answers.{bodyAt, flagAt}
 use Rattle.host.specs.declared.call.Call.the-variants as call
 use Rattle.host.specs.declared.call.Question.the-variants as question
-use Rattle.machine.specs.Machine.{Canonical, newMachine, lescSwitch}
+use Rattle.machine.specs.Machine.{Canonical, newMachine}
 use Rattle.machine.specs.declared.Role.the-variants.{Central, Peripheral}
 use Rattle.machine.proofs.Canonical.{new-canonical, switch-canonical}
 use Rattle.protocol.specs.LegacyPeripheral.{«handle_pairing_request», transition, «handle_input»}

@@ -39,7 +39,7 @@ use Rattle.machine.specs.declared.Role.the-variants.{Central, Peripheral}
 use Rattle.protocol.specs.declared.Outcome.{Outcome}
 use Rattle.protocol.specs.declared.Outcome.the-variants as outcome
 use Rattle.protocol.specs.Program.{ret, ask, Taken, got, wants, refused}
-use Rattle.protocol.specs.Ops.{Delivery, delivered, Sort, aVerdict, aFlag, anIrk, anAddress, aNonce, aPassKey, anLtk, anEdiv, aRand, aBond, anOptionBond, Holds, replySort, Reply, replyAt, Program}
+use Rattle.protocol.specs.Ops.{delivered, Sort, aVerdict, aFlag, anIrk, anAddress, aNonce, aPassKey, anLtk, anEdiv, aRand, aBond, anOptionBond, Holds, replySort, replyAt, Program}
 use Rattle.protocol.specs.Handlers.{namesEncryptionKey, namesIdentityKey}
 use Rattle.protocol.specs.Step.{handleInput, playOf, Step, longest, step}
 

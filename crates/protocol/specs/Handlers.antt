@@ -5,12 +5,11 @@ use mathlib.Core.Bool.{Bool, true, false, cond}
 use mathlib.Core.List.{List, [], _∷_}
 use mathlib.Core.Option.{Option, none, some}
 use lib.Dec.{eqb, ltb}
-use lib.ListN.{length, getD, take, drop, replicate}
+use lib.ListN.{length, getD, take, drop}
 use Rattle.octets.specs.Answer.{Answer, refused, accepted}
 use Rattle.octets.specs.Octets.{fromOctets, wordOf}
 use Rattle.octets.specs.declared.Word128.{Word128}
 use Rattle.crypto.specs.Crypto.{maskedOf}
-use Rattle.crypto.specs.declared.crypto.Confirm.{Confirm}
 use Rattle.crypto.specs.declared.crypto.IdentityResolvingKey.{IdentityResolvingKey}
 use Rattle.crypto.specs.declared.crypto.LongTermKey.{LongTermKey}
 use Rattle.crypto.specs.declared.crypto.Nonce.{Nonce}
@@ -19,7 +18,6 @@ use Rattle.types.specs.declared.types.Command.{Command}
 use Rattle.types.specs.declared.types.Command.the-variants as command
 use Rattle.types.specs.declared.types.KeyDistributionFlags.{KeyDistributionFlags}
 use Rattle.types.specs.declared.types.PairingFeatures.{PairingFeatures}
-use Rattle.types.specs.declared.types.PassKey.{PassKey}
 use Rattle.types.specs.declared.types.Reason.{Reason}
 use Rattle.types.specs.declared.types.Reason.the-variants as reason
 use Rattle.util.specs.Method.{securityLevel}

@@ -3,12 +3,9 @@
 -- `handle_encryption_information` and `handle_identity_information`, in the same words in both files, stand in Handlers;
 -- `result`, `is_encrypted` and `new` stand with the machine; `mark_timeout` is left out with the timer. Assumes nothing.
 use Prim.Native.Nat.{ℕ}
-use mathlib.Core.Bool.{Bool, true, false, cond, not, _&&_}
+use mathlib.Core.Bool.{Bool, true, false, not}
 use mathlib.Core.List.{List}
-use mathlib.Core.Option.{Option, none, some}
-use lib.Dec.{eqb}
 use Rattle.octets.specs.Octets.{sameWord}
-use Rattle.octets.specs.declared.Word128.{Word128}
 use Rattle.crypto.specs.Crypto.{c1Of, s1Of}
 use Rattle.crypto.specs.declared.crypto.Confirm.{Confirm}
 use Rattle.crypto.specs.declared.crypto.Nonce.{Nonce}
@@ -29,7 +26,7 @@ use Rattle.util.specs.declared.util.PairingMethod.the-variants as method
 use Rattle.util.specs.declared.util.PassKeyEntryAction.the-variants as action
 use Rattle.bond.specs.Bond.{addressType, bdAddrOctets}
 use Rattle.bond.specs.declared.Address.{Address}
-use Rattle.bond.specs.declared.Error.the-variants.{Security, InvalidState, InvalidValue}
+use Rattle.bond.specs.declared.Error.the-variants.{Security, InvalidValue}
 use Rattle.host.specs.declared.call.ConnectionEvent.the-variants as notice
 use Rattle.host.specs.declared.call.Draw.the-variants as draw
 use Rattle.host.specs.declared.call.Packet.the-variants as packet

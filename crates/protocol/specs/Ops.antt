@@ -9,10 +9,7 @@ use Rattle.crypto.specs.declared.crypto.LongTermKey.{LongTermKey}
 use Rattle.crypto.specs.declared.crypto.Nonce.{Nonce}
 use Rattle.types.specs.declared.types.PassKey.{PassKey}
 use Rattle.bond.specs.Bond.{verdictError}
-use Rattle.bond.specs.declared.Address.{Address}
-use Rattle.bond.specs.declared.BondInformation.{BondInformation}
 use Rattle.bond.specs.declared.Error.{Error}
-use Rattle.bond.specs.declared.OptionBond.{OptionBond}
 use Rattle.host.specs.Calls.{kindOf}
 use Rattle.host.specs.declared.call.Question.{Question}
 use Rattle.host.specs.declared.call.Question.the-variants as question

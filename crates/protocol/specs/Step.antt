@@ -10,7 +10,6 @@ use Rattle.octets.specs.Octets.{writeAt}
 use Rattle.types.specs.Types.{commandOf}
 use Rattle.host.specs.Calls.{allOctets}
 use Rattle.host.specs.declared.call.Call.{Call}
-use Rattle.host.specs.declared.call.Slot.{Slot}
 use Rattle.machine.specs.declared.Input.{Input}
 use Rattle.machine.specs.declared.Input.the-variants as input
 use Rattle.machine.specs.declared.Machine.{Machine}
