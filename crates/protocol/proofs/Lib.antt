@@ -1,1 +1,4 @@
+pub mod Programs
+pub mod Replies
+pub mod StepLaws
 pub mod FirstMove
