@@ -1,4 +1,9 @@
 pub mod Programs
 pub mod Replies
 pub mod StepLaws
+pub mod Bounds
+pub mod HandlerBounds
+pub mod PeripheralBounds
+pub mod CentralBounds
+pub mod Limits
 pub mod FirstMove
