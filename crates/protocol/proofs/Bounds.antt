@@ -47,9 +47,12 @@ pub within-more :
     n ≤ n′ → o ≤ o′ → Within B P n o p → Within B Q n′ o′ p
 within-more B P Q (ret a) n o n′ o′ f h g w = f a w
 within-more B P Q (ask c k) n o n′ o′ f h g w =
-    let size = length (callOctets c) in
-    (omega (arith, w .0), omega (arith, w .1), w .2,
-    λ x. within-more B P Q (k x) (n - 1) (o - size) (n′ - 1) (o′ - size) f (omega arith) (omega arith) (w .3 x))
+    let size = length (callOctets c) in (
+      omega (arith, w .0),
+      omega (arith, w .1),
+      w .2,
+      λ x. within-more B P Q (k x) (n - 1) (o - size) (n′ - 1) (o′ - size) f (omega arith) (omega arith) (w .3 x),
+    )
 
 -- one program after another: what the first does not need is left to the second
 pub within-bind :
@@ -61,11 +64,14 @@ pub within-bind :
 within-bind B D P Q (ret a) f n o n₁ o₁ b h g w v =
     within-more D Q Q (f a) (n - n₁) (o - o₁) n o (λ c q. q) (omega arith) (omega arith) (v a w)
 within-bind B D P Q (ask c k) f n o n₁ o₁ b h g w v =
-    let size = length (callOctets c) in
-    (omega (arith, w .0), omega (arith, w .1), b c k (w .2),
-    λ x. within-bind B D P Q (k x) f (n - 1) (o - size) (n₁ - 1) (o₁ - size) b (omega arith) (omega arith) (w .3 x)
-    (λ a h₁. within-more D Q Q (f a) (n - n₁) (o - o₁) (n - 1 - (n₁ - 1)) (o - size - (o₁ - size)) (λ c₁ q. q)
-    (omega (arith, w .0)) (omega (arith, w .1)) (v a h₁)))
+    let size = length (callOctets c) in (
+      omega (arith, w .0),
+      omega (arith, w .1),
+      b c k (w .2),
+      λ x. within-bind B D P Q (k x) f (n - 1) (o - size) (n₁ - 1) (o₁ - size) b (omega arith) (omega arith) (w .3 x)
+          (λ a h₁. within-more D Q Q (f a) (n - n₁) (o - o₁) (n - 1 - (n₁ - 1)) (o - size - (o₁ - size)) (λ c₁ q. q)
+          (omega (arith, w .0)) (omega (arith, w .1)) (v a h₁)),
+    )
 
 -- ---- bounds of a handler
 

@@ -108,9 +108,13 @@ begin-method-keeps :
 unfolding beginMethod callOctets
 begin-method-keeps preq pres d method.OutOfBand =
     (lit≤ tt, lit≤ tt, tt, delivered-then _ _ _ _ d (record { ofRole = tt; kept = refl }))
-begin-method-keeps preq pres d (method.PassKeyEntry action.Display peripheral) =
-    (lit≤ tt, lit≤ tt, tt, λ tk.
-    (lit≤ tt, lit≤ tt, tt, delivered-then _ _ _ _ d (begin-confirm-keeps preq pres d (passKeyTk (tk .0)))))
+begin-method-keeps preq pres d (method.PassKeyEntry action.Display peripheral) = (
+  lit≤ tt,
+  lit≤ tt,
+  tt,
+  λ tk.
+      (lit≤ tt, lit≤ tt, tt, delivered-then _ _ _ _ d (begin-confirm-keeps preq pres d (passKeyTk (tk .0)))),
+)
 begin-method-keeps preq pres d (method.PassKeyEntry action.Input peripheral) =
     (lit≤ tt, lit≤ tt, tt, delivered-then _ _ _ _ d (record { ofRole = tt; kept = refl }))
 begin-method-keeps preq pres d method.JustWorks =

@@ -51,20 +51,50 @@ pub send-encryption-key-keeps :
     (d : PairingData) (kept : LongTermKey → ℕ → ℕ → PairingData) (agreed : Bool) →
     Keeps Anything 5 31 (sendEncryptionKey d kept agreed)
 unfolding sendEncryptionKey callOctets octetsOf
-send-encryption-key-keeps d kept true =
-    (lit≤ tt, lit≤ tt, tt, λ ltk. (lit≤ tt, lit≤ tt, tt, λ ediv. (lit≤ tt, lit≤ tt, tt, λ rand.
-    (lit≤ tt, lit≤ tt, λ e. (d, refl), delivered-then _ _ _ _ d
-    (lit≤ tt, lit≤ tt, λ e. (d, refl), delivered-then _ _ _ _ d tt)))))
+send-encryption-key-keeps d kept true = (
+  lit≤ tt,
+  lit≤ tt,
+  tt,
+  λ ltk. (
+    lit≤ tt,
+    lit≤ tt,
+    tt,
+    λ ediv. (
+      lit≤ tt,
+      lit≤ tt,
+      tt,
+      λ rand. (
+        lit≤ tt,
+        lit≤ tt,
+        λ e. (d, refl),
+        delivered-then _ _ _ _ d
+            (lit≤ tt, lit≤ tt, λ e. (d, refl), delivered-then _ _ _ _ d tt),
+      ),
+    ),
+  ),
+)
 send-encryption-key-keeps d kept false = tt
 
 -- the IRK asked and sent in 17 octets, the address asked and sent in 8
 pub send-identity-key-keeps : (d : PairingData) (agreed : Bool) → Keeps Anything 4 27 (sendIdentityKey d agreed)
 unfolding sendIdentityKey callOctets octetsOf bdAddrOctets
-send-identity-key-keeps d true =
-    (lit≤ tt, lit≤ tt, tt, λ irk.
-    (lit≤ tt, lit≤ tt, λ e. (d, refl), delivered-then _ _ _ _ d
-    (lit≤ tt, lit≤ tt, tt, address-then _ _ _ _ d (λ a.
-    (lit≤ tt, lit≤ tt, λ e. (d, refl), delivered-last _ _ d)))))
+send-identity-key-keeps d true = (
+  lit≤ tt,
+  lit≤ tt,
+  tt,
+  λ irk. (
+    lit≤ tt,
+    lit≤ tt,
+    λ e. (d, refl),
+    delivered-then _ _ _ _ d (
+      lit≤ tt,
+      lit≤ tt,
+      tt,
+      address-then _ _ _ _ d (λ a.
+          (lit≤ tt, lit≤ tt, λ e. (d, refl), delivered-last _ _ d)),
+    ),
+  ),
+)
 send-identity-key-keeps d false = tt
 
 -- one call of 19 octets

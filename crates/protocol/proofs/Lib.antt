@@ -6,4 +6,5 @@ pub mod HandlerBounds
 pub mod PeripheralBounds
 pub mod CentralBounds
 pub mod Limits
+pub mod Leaving
 pub mod FirstMove

@@ -1,16 +1,14 @@
 -- The limits of a step of either role: at most 11 calls of at most 164 octets, both reached; after an undelivered
--- packet PairingFailed alone; a canonical machine stays canonical; and inputs that leave a machine as it is.
--- Assumes nothing.
+-- packet PairingFailed alone; a canonical machine stays canonical. Assumes nothing.
 use Prim.Native.Nat.{ℕ, _≤_}
 use mathlib.Core.Bool.{Bool, true, false, cond}
 use mathlib.Core.Path.{_≡_, refl, ap, _∙_}
 use mathlib.Core.List.{List, [], _∷_, _++_}
 use native.Mathlib.Nat.{zero-add}
 use native.Mathlib.Omega.{arith}
-use lib.Dec.{eqb, ltb}
+use lib.Dec.{ltb}
 use lib.ListN.{length, drop, replicate}
 use Rattle.octets.specs.Octets.{octetsOf, writeAt}
-use Rattle.octets.specs.declared.Word128.{Word128}
 use Rattle.octets.proofs.Parts.{written}
 use Rattle.types.specs.Types.{bondingCode, featuresWith}
 use Rattle.types.specs.declared.capabilities.IoCapabilities.the-variants.{NoInputNoOutput}
@@ -24,18 +22,16 @@ use Rattle.host.specs.Calls.{callOctets, allOctets, mostCalls}
 use Rattle.host.specs.declared.call.Call.{Call}
 use Rattle.answer.specs.Answers.{bodyAt, verdictAt, ltkAt, edivAt, randAt, irkAt, addressAt}
 use Rattle.machine.specs.Machine.{Canonical, newData, noConfirmData, wantBonding}
-use Rattle.machine.specs.declared.ConfirmBytes.{ConfirmBytes}
 use Rattle.machine.specs.declared.Event.{Event}
 use Rattle.machine.specs.declared.Event.the-variants as event
 use Rattle.machine.specs.declared.Input.{Input}
 use Rattle.machine.specs.declared.Input.the-variants as input
 use Rattle.machine.specs.declared.Machine.{Machine}
-use Rattle.machine.specs.declared.Phase.{Phase}
 use Rattle.machine.specs.declared.Phase.the-variants as phase
 use Rattle.machine.specs.declared.Role.{Role}
 use Rattle.machine.specs.declared.Role.the-variants.{Central, Peripheral}
-use Rattle.protocol.specs.Program.{ret, Ending, ended, wanting, refusing, Played}
-use Rattle.protocol.specs.Handlers.{Handler, ok, onLinkEncrypted, onPassKeyInput, onPassKeyCancel, onOobData, otherInput, enters, withFeatures, withBond, withKeys, enter, sendEncryptionKey, sendIdentityKey}
+use Rattle.protocol.specs.Program.{Ending, ended, wanting, refusing, Played}
+use Rattle.protocol.specs.Handlers.{enters, withFeatures, withBond, withKeys, enter, sendEncryptionKey, sendIdentityKey}
 use Rattle.protocol.specs.LegacyCentral as central
 use Rattle.protocol.specs.LegacyPeripheral as peripheral
 use Rattle.protocol.specs.Step.{handleInput, playOf, callsOctets, longest, refusedBy, stepped, isKnown, step}
@@ -90,153 +86,38 @@ pub fails-once : (r : Role) (m : Machine) (i : Input) (payload : List ℕ) → F
 fails-once r m i payload =
     within-fails (Stays r m) (handleInput r m i payload) mostCalls longest (step-within r m i payload)
 
--- a step leaves a canonical machine canonical, whatever comes of it
-pub canonical-step :
-    (r : Role) (m : Machine) (i : Input) (payload answers list : List ℕ) → Canonical r m →
-    Canonical r (step r m i payload answers list .stepped .machine)
+ending-more :
+    (P Q : Machine → Type 0) → ((m : Machine) → P m → Q m) → (x : Ending Machine) → OfEnding P x → OfEnding Q x
+ending-more P Q f (ended m) h = f m h
+ending-more P Q f wanting h = tt
+ending-more P Q f refusing h = tt
+
+-- what holds of the machine given, and of the program's where it ended, holds of the machine that a step gives back
+pub step-gives :
+    (P : Machine → Type 0) (r : Role) (m : Machine) (i : Input) (payload answers list : List ℕ) → P m →
+    OfEnding P (playOf r m i payload answers .ending) → P (step r m i payload answers list .stepped .machine)
 unfolding step
-canonical-step r m i payload answers list h =
-    any (ltb (length list) longest) (isKnown i) (playOf r m i payload answers .ending)
-    (play-limits r m i payload answers .gives)
+step-gives P r m i payload answers list h g =
+    any (ltb (length list) longest) (isKnown i) (playOf r m i payload answers .ending) g
   where
     any :
-        (short known : Bool) (x : Ending Machine) → OfEnding (Stays r m) x →
-        Canonical r (cond short (refusedBy 1 m list) (cond known
+        (short known : Bool) (x : Ending Machine) → OfEnding P x →
+        P (cond short (refusedBy 1 m list) (cond known
         (stepped m list (playOf r m i payload answers .calls) (playOf r m i payload answers .place) x)
         (refusedBy 2 m list)) .stepped .machine)
     any true known x g = h
-    any false true (ended m₁) g = g h
+    any false true (ended m₁) g = g
     any false true wanting g = h
     any false true refusing g = h
     any false false x g = h
 
--- ---- inputs that leave a machine as it is
-
-abbrev pub transitionOf : Role → Machine → Input → List ℕ → Handler Machine
-transitionOf Central m i payload = central.transition m i payload
-transitionOf Peripheral m i payload = peripheral.transition m i payload
-
-same-ways : {A : Type 0} (b c : Bool) (x : A) → cond b x (cond c x x) ≡ x
-same-ways true c x = refl
-same-ways false true x = refl
-same-ways false false x = refl
-
--- a KeypressNotification, in any state
-pub keypress-leaves :
-    (r : Role) (m : Machine) (payload : List ℕ) → transitionOf r m (input.Command 0x0E) payload ≡ ret (ok m)
-unfolding central.transition peripheral.transition otherInput
-keypress-leaves Central m payload = at (m .phase)
-  where
-    at : (p : Phase) → central.transitionFrom m payload (input.Command 0x0E) p ≡ ret (ok m)
-    at phase.WaitingPairingRequest = refl
-    at phase.WaitingPairingResponse = refl
-    at (phase.WaitingPassKeyInput b) = refl
-    at phase.WaitingOobData = refl
-    at phase.WaitingPairingConfirm = refl
-    at (phase.WaitingPairingRandom c) = refl
-    at phase.WaitingLinkEncrypted = refl
-    at phase.WaitingIdentitityInformation = refl
-    at phase.WaitingIdentitityAddressInformation = refl
-    at (phase.ReceivingKeys n k) = same-ways (eqb n 0) (eqb n 1) (ret (ok m))
-    at phase.Success = refl
-    at (phase.Error e) = refl
-keypress-leaves Peripheral m payload = at (m .phase)
-  where
-    at : (p : Phase) → peripheral.transitionFrom m payload (input.Command 0x0E) p ≡ ret (ok m)
-    at phase.WaitingPairingRequest = refl
-    at phase.WaitingPairingResponse = refl
-    at (phase.WaitingPassKeyInput b) = refl
-    at phase.WaitingOobData = refl
-    at phase.WaitingPairingConfirm = refl
-    at (phase.WaitingPairingRandom c) = refl
-    at phase.WaitingLinkEncrypted = refl
-    at phase.WaitingIdentitityInformation = refl
-    at phase.WaitingIdentitityAddressInformation = refl
-    at (phase.ReceivingKeys n k) = same-ways (eqb n 0) (eqb n 1) (ret (ok m))
-    at phase.Success = refl
-    at (phase.Error e) = refl
-
--- no passkey is awaited
-abbrev pub NotTyping : Phase → Type 0
-NotTyping p = (b : ConfirmBytes) → ¬ (p ≡ phase.WaitingPassKeyInput b)
-
--- the passkey events that a state does not await: PassKeyConfirm in any, the others where no passkey is
-abbrev pub Unawaited : Event → Phase → Type 0
-Unawaited event.PassKeyConfirm p = Unit {0}
-Unawaited event.PassKeyCancel p = NotTyping p
-Unawaited (event.PassKeyInput n) p = NotTyping p
-Unawaited (event.LinkEncryptedResult b) p = ⊥
-Unawaited (event.OobDataReceived w) p = ⊥
-
--- what such an event comes to where a state awaits other events
-module _ (m : Machine) (payload : List ℕ) (e : Event) where
-  abbrev other : Handler Machine
-  other = otherInput m payload (input.Event e)
-
-  record Passes : Type 0 where
-    others : other ≡ ret (ok m)
-    link : (p : Bool → Handler Machine) → onLinkEncrypted (input.Event e) p other ≡ ret (ok m)
-    oob : (p : Word128 → Handler Machine) → onOobData (input.Event e) p other ≡ ret (ok m)
-
-passes : (m : Machine) (payload : List ℕ) (e : Event) (s : Phase) → Unawaited e s → Passes m payload e
-unfolding otherInput
-passes m payload event.PassKeyConfirm s h = record { others = refl; link = λ p. refl; oob = λ p. refl }
-passes m payload event.PassKeyCancel s h = record { others = refl; link = λ p. refl; oob = λ p. refl }
-passes m payload (event.PassKeyInput n) s h = record { others = refl; link = λ p. refl; oob = λ p. refl }
-passes m payload (event.LinkEncryptedResult b) s h = absurd h
-passes m payload (event.OobDataReceived w) s h = absurd h
-
--- .. and where a passkey is awaited, so that it is PassKeyConfirm
-typing-passes :
-    (m : Machine) (payload : List ℕ) (e : Event) (b : ConfirmBytes) (p : ℕ → Handler Machine) (q : Handler Machine) →
-    Unawaited e (phase.WaitingPassKeyInput b) →
-    onPassKeyInput (input.Event e) p (onPassKeyCancel (input.Event e) q (otherInput m payload (input.Event e)))
-    ≡ ret (ok m)
-unfolding otherInput
-typing-passes m payload event.PassKeyConfirm b p q h = refl
-typing-passes m payload event.PassKeyCancel b p q h = absurd (h b refl)
-typing-passes m payload (event.PassKeyInput n) b p q h = absurd (h b refl)
-typing-passes m payload (event.LinkEncryptedResult x) b p q h = absurd h
-typing-passes m payload (event.OobDataReceived w) b p q h = absurd h
-
-pub passkey-leaves :
-    (r : Role) (m : Machine) (e : Event) (payload : List ℕ) → Unawaited e (m .phase) →
-    transitionOf r m (input.Event e) payload ≡ ret (ok m)
-unfolding central.transition peripheral.transition
-passkey-leaves Central m e payload h = at (m .phase) h (passes m payload e (m .phase) h)
-  where
-    at :
-        (p : Phase) → Unawaited e p → Passes m payload e →
-        central.transitionFrom m payload (input.Event e) p ≡ ret (ok m)
-    at phase.WaitingPairingRequest g w = w .others
-    at phase.WaitingPairingResponse g w = w .others
-    at (phase.WaitingPassKeyInput b) g w = typing-passes m payload e b _ _ g
-    at phase.WaitingOobData g w = w .oob _
-    at phase.WaitingPairingConfirm g w = w .others
-    at (phase.WaitingPairingRandom c) g w = w .others
-    at phase.WaitingLinkEncrypted g w = w .link _
-    at phase.WaitingIdentitityInformation g w = w .others
-    at phase.WaitingIdentitityAddressInformation g w = w .others
-    at (phase.ReceivingKeys n k) g w = same-ways (eqb n 0) (eqb n 1) _ ∙ w .others
-    at phase.Success g w = w .others
-    at (phase.Error x) g w = w .others
-passkey-leaves Peripheral m e payload h = at (m .phase) h (passes m payload e (m .phase) h)
-  where
-    at :
-        (p : Phase) → Unawaited e p → Passes m payload e →
-        peripheral.transitionFrom m payload (input.Event e) p ≡ ret (ok m)
-    at phase.WaitingPairingRequest g w = w .link _
-    at phase.WaitingPairingResponse g w = w .others
-    at (phase.WaitingPassKeyInput b) g w = typing-passes m payload e b _ _ g
-    at phase.WaitingOobData g w = w .oob _
-    at phase.WaitingPairingConfirm g w = w .others
-    at (phase.WaitingPairingRandom c) g w = w .others
-    at phase.WaitingLinkEncrypted g w = w .link _
-    at phase.WaitingIdentitityInformation g w = w .others
-    at phase.WaitingIdentitityAddressInformation g w = w .others
-    at (phase.ReceivingKeys n k) g w = same-ways (eqb n 0) (eqb n 1) _ ∙ w .others
-    at phase.Success g w = w .others
-    at (phase.Error x) g w = w .others
+-- a step leaves a canonical machine canonical, whatever comes of it
+pub canonical-step :
+    (r : Role) (m : Machine) (i : Input) (payload answers list : List ℕ) → Canonical r m →
+    Canonical r (step r m i payload answers list .stepped .machine)
+canonical-step r m i payload answers list h =
+    step-gives (Canonical r) r m i payload answers list h
+    (ending-more (Stays r m) (Canonical r) (λ m₁ g. g h) (playOf r m i payload answers .ending) (play-limits r m i payload answers .gives))
 
 -- ---- the limits are reached
 

@@ -102,9 +102,13 @@ begin-method-keeps :
 unfolding beginMethod callOctets
 begin-method-keeps preq pres d method.OutOfBand =
     (lit≤ tt, lit≤ tt, tt, delivered-then _ _ _ _ d (record { ofRole = tt; kept = refl }))
-begin-method-keeps preq pres d (method.PassKeyEntry central action.Display) =
-    (lit≤ tt, lit≤ tt, tt, λ tk.
-    (lit≤ tt, lit≤ tt, tt, delivered-then _ _ _ _ d (record { ofRole = tt; kept = refl })))
+begin-method-keeps preq pres d (method.PassKeyEntry central action.Display) = (
+  lit≤ tt,
+  lit≤ tt,
+  tt,
+  λ tk.
+      (lit≤ tt, lit≤ tt, tt, delivered-then _ _ _ _ d (record { ofRole = tt; kept = refl })),
+)
 begin-method-keeps preq pres d (method.PassKeyEntry central action.Input) =
     (lit≤ tt, lit≤ tt, tt, delivered-then _ _ _ _ d (record { ofRole = tt; kept = refl }))
 begin-method-keeps preq pres d method.JustWorks = record { ofRole = tt; kept = refl }
@@ -113,15 +117,28 @@ begin-method-keeps preq pres d method.NumericComparison = tt
 -- the response in 7 octets, five calls of one octet before it, and the method behind it
 pairing-request-keeps : (d : PairingData) (payload : List ℕ) → Keeps Enters 8 18 («handle_pairing_request» d payload)
 unfolding «handle_pairing_request» callOctets
-pairing-request-keeps d payload =
-    (lit≤ tt, lit≤ tt, tt, λ found.
-    keeps-then (bondLost found) _ Anything _ 7 17 1 1 (lit≤ tt) (lit≤ tt) (bond-lost-keeps found) (λ u v.
-    or-fail-then _ _ 6 16 d _ (featuresIn payload) (λ peer.
-    let named = namesIdentityKey (peer .«responder_key_distribution») in
-    keeps-then (identityOffered named) _ Anything _ 6 16 1 1 (lit≤ tt) (lit≤ tt) (identity-offered-keeps named)
-    (λ offered w.
-    (lit≤ tt, lit≤ tt, tt, λ bonding. (lit≤ tt, lit≤ tt, tt, λ available.
-    (lit≤ tt, lit≤ tt, λ e. (_, refl), delivered-then _ _ _ _ _ (begin-method-keeps _ _ _ _))))))))
+pairing-request-keeps d payload = (
+  lit≤ tt,
+  lit≤ tt,
+  tt,
+  λ found.
+      keeps-then (bondLost found) _ Anything _ 7 17 1 1 (lit≤ tt) (lit≤ tt) (bond-lost-keeps found) (λ u v.
+      or-fail-then _ _ 6 16 d _ (featuresIn payload) (λ peer.
+      let named = namesIdentityKey (peer .«responder_key_distribution») in
+      keeps-then (identityOffered named) _ Anything _ 6 16 1 1 (lit≤ tt) (lit≤ tt) (identity-offered-keeps named)
+      (λ offered w. (
+        lit≤ tt,
+        lit≤ tt,
+        tt,
+        λ bonding. (
+          lit≤ tt,
+          lit≤ tt,
+          tt,
+          λ available.
+              (lit≤ tt, lit≤ tt, λ e. (_, refl), delivered-then _ _ _ _ _ (begin-method-keeps _ _ _ _)),
+        ),
+      )))),
+)
 
 -- Srand in 17 octets and encryption in 19
 on-mrand-keeps :
@@ -137,7 +154,7 @@ pairing-random-keeps :
     Keeps Enters 2 36 («handle_pairing_random» c d confirm payload)
 unfolding «handle_pairing_random»
 pairing-random-keeps c d confirm payload =
-    or-fail-then _ _ 2 36 d _ (wordIn payload) (λ w. 
+    or-fail-then _ _ 2 36 d _ (wordIn payload) (λ w.
     on-mrand-keeps c d (record { 0 = w }) (sameWord (confirmValue c d (record { 0 = w }) .0) (confirm .0)))
 
 -- no call

@@ -104,7 +104,7 @@ module _ {C : Type 0} {R : C → Type 0} {O : Type 0} (read : (c : C) → List O
         → ((c : C) (k : R c → Prog C R A) (at : ℕ) → read c s at ≡ wants → P (ask c k) at)
         → ((c : C) (k : R c → Prog C R A) (at : ℕ) → read c s at ≡ refused → P (ask c k) at)
         → ((c : C) (k : R c → Prog C R A) (at : ℕ) (x : R c) (n : ℕ)
-            → read c s at ≡ got x n → P (k x) n → P (ask c k) at)
+        → read c s at ≡ got x n → P (k x) n → P (ask c k) at)
         → (p : Prog C R A) (at : ℕ) → P p at
     along s P atEnd atWants atRefused atGot (ret a) at = atEnd a at
     along s P atEnd atWants atRefused atGot (ask c k) at =
@@ -266,7 +266,9 @@ module _ {C : Type 0} {R : C → Type 0} {O : Type 0} (read : (c : C) → List O
         play-again h =
             let q = wanting-calls s p at h in
             let n = play read s p at .place in
-            let new : List C = onTaken n (λ x j. play read (s ++ w) (q .1 x) j) (read (q .0) (s ++ w) n) .calls in
-            (new, again-calls
-            ∙ ap (λ (z : Prog C R A). answered s p at ++ play read (s ++ w) z n .calls) (q .3)
-            ∙ sym (ap (λ (l : List C). l ++ new) (q .2) ∙ append-assoc (answered s p at) (q .0 ∷ []) new))
+            let new : List C = onTaken n (λ x j. play read (s ++ w) (q .1 x) j) (read (q .0) (s ++ w) n) .calls in (
+              new,
+              again-calls
+                  ∙ ap (λ (z : Prog C R A). answered s p at ++ play read (s ++ w) z n .calls) (q .3)
+                  ∙ sym (ap (λ (l : List C). l ++ new) (q .2) ∙ append-assoc (answered s p at) (q .0 ∷ []) new),
+            )

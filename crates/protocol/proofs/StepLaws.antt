@@ -3,14 +3,17 @@
 use Prim.Native.Nat.{ℕ, _≤_, _<_}
 use mathlib.Core.Path.{_≡_, refl, sym, ap, _∙_, subst}
 use mathlib.Core.Bool.{Bool, true, false, cond}
-use mathlib.Core.List.{List, [], _∷_, _++_, append-assoc, append-nil}
+use mathlib.Core.List.{List, [], _∷_, _++_, map, append-assoc, append-nil}
 use native.Mathlib.Nat.{zero-add}
 use lib.Dec.{ltb}
 use lib.ListN.{length, take}
 use borrow.Author.Tests.{lt-ltb, le-ltb}
+use Rattle.octets.specs.Answer.{accepted}
 use Rattle.octets.specs.Octets.{writeAt}
 use Rattle.host.specs.Calls.{callOctets, allOctets}
+use Rattle.host.specs.CallList.{callsOf, recordsFrom}
 use Rattle.host.specs.declared.call.Call.{Call}
+use Rattle.host.proofs.Listing.{read-back}
 use Rattle.machine.specs.declared.Input.{Input}
 use Rattle.machine.specs.declared.Machine.{Machine}
 use Rattle.machine.specs.declared.Role.{Role}
@@ -36,6 +39,12 @@ callsOctets-last : (cs : List Call) (c : Call) → callsOctets (cs ++ (c ∷ [])
 unfolding callsOctets allOctets
 callsOctets-last cs c =
     callsOctets-append cs (c ∷ []) ∙ ap (λ (l : List ℕ). callsOctets cs ++ l) (append-nil (callOctets c))
+
+-- the octets of a step's calls, read as a call list, are the kinds and places of these calls
+pub callsOctets-read :
+    (cs : List Call) → callsOf (callsOctets cs) ≡ accepted (recordsFrom 0 (map (λ c. record { call = c }) cs))
+unfolding callsOctets
+callsOctets-read cs = read-back (map (λ c. record { call = c }) cs)
 
 -- ---- from the outcome of a step to how its play came out
 
@@ -241,6 +250,9 @@ module _ (r : Role) (m : Machine) (i : Input) (payload answers list : List ℕ) 
       let p = handleInput r m i payload in
       let q = wants-play r m i payload answers list h in
       let a = play-again replyAt reads answers more p 0 (q .0) in
-      let read-is = ap (λ (x : Step). x .stepped .read) (q .1) in
-      (a .0, a .1, ap callsOctets (a .1) ∙ callsOctets-append (playOf r m i payload answers .calls) (a .0),
-      rw (read-place r m i payload (answers ++ more) list ok, read-is) (again-further replyAt reads answers more p 0))
+      let read-is = ap (λ (x : Step). x .stepped .read) (q .1) in (
+        a .0,
+        a .1,
+        ap callsOctets (a .1) ∙ callsOctets-append (playOf r m i payload answers .calls) (a .0),
+        rw (read-place r m i payload (answers ++ more) list ok, read-is) (again-further replyAt reads answers more p 0),
+      )
