@@ -1,3 +1,4 @@
+pub mod Awaited
 pub mod Programs
 pub mod Replies
 pub mod StepLaws

@@ -6,7 +6,7 @@ use mathlib.Core.Path.{_≡_, refl, ap, _∙_}
 use mathlib.Core.List.{List, [], _∷_, _++_}
 use native.Mathlib.Nat.{zero-add}
 use native.Mathlib.Omega.{arith}
-use lib.Dec.{ltb}
+use lib.Dec.{ltb, lit≤}
 use lib.ListN.{length, drop, replicate}
 use Rattle.octets.specs.Octets.{octetsOf, writeAt}
 use Rattle.octets.proofs.Parts.{written}
@@ -30,17 +30,24 @@ use Rattle.machine.specs.declared.Machine.{Machine}
 use Rattle.machine.specs.declared.Phase.the-variants as phase
 use Rattle.machine.specs.declared.Role.{Role}
 use Rattle.machine.specs.declared.Role.the-variants.{Central, Peripheral}
-use Rattle.protocol.specs.Program.{Ending, ended, wanting, refusing, Played}
-use Rattle.protocol.specs.Handlers.{enters, withFeatures, withBond, withKeys, enter, sendEncryptionKey, sendIdentityKey}
+use Rattle.protocol.specs.Program.{bind, Ending, ended, wanting, refusing, Played}
+use Rattle.protocol.specs.Handlers.{Handler, entered, enters, withFeatures, withBond, withKeys, enter, sendEncryptionKey, sendIdentityKey}
 use Rattle.protocol.specs.LegacyCentral as central
 use Rattle.protocol.specs.LegacyPeripheral as peripheral
 use Rattle.protocol.specs.Step.{handleInput, playOf, callsOctets, longest, refusedBy, stepped, isKnown, step}
-use Rattle.protocol.proofs.Bounds.{Within, Broken, FailsOnce, within-fails, OfEnding, PlaysWithin, plays-within}
-use Rattle.protocol.proofs.HandlerBounds.{Stays, entered-within}
+use Rattle.protocol.proofs.Bounds.{within-more, Within, Broken, FailsOnce, within-fails, OfEnding, PlaysWithin, plays-within}
+use Rattle.protocol.proofs.HandlerBounds.{Moves, Stays, entered-within}
 use Rattle.protocol.proofs.CentralBounds as central-bounds
 use Rattle.protocol.proofs.PeripheralBounds as peripheral-bounds
 
 -- ---- a step's bounds
+
+-- a transition and the state that it enters
+most-within :
+    (r : Role) (m : Machine) (p : Handler Machine) → Moves r m p → Within Broken (Stays r m) mostCalls longest (bind p entered)
+most-within r m p w =
+    within-more Broken (Stays r m) (Stays r m) (bind p entered) 11 164 mostCalls longest (λ m₁ h. h) (lit≤ tt) (lit≤ tt)
+    (entered-within r m p w)
 
 -- the program of a step
 pub step-within :
@@ -48,9 +55,9 @@ pub step-within :
     Within Broken (Stays r m) mostCalls longest (handleInput r m i payload)
 unfolding central.«handle_input» peripheral.«handle_input»
 step-within Central m i payload =
-    entered-within Central m (central.transition m i payload) (central-bounds.transition-keeps m i payload)
+    most-within Central m (central.transition m i payload) (central-bounds.transition-keeps m i payload)
 step-within Peripheral m i payload =
-    entered-within Peripheral m (peripheral.transition m i payload) (peripheral-bounds.transition-keeps m i payload)
+    most-within Peripheral m (peripheral.transition m i payload) (peripheral-bounds.transition-keeps m i payload)
 
 -- .. and its play on any answers
 pub play-limits :

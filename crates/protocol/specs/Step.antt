@@ -15,6 +15,7 @@ use Rattle.machine.specs.declared.Input.the-variants as input
 use Rattle.machine.specs.declared.Machine.{Machine}
 use Rattle.machine.specs.declared.Role.{Role}
 use Rattle.machine.specs.declared.Role.the-variants.{Central, Peripheral}
+use Rattle.protocol.specs.declared.Outcome.{Outcome}
 use Rattle.protocol.specs.declared.Outcome.the-variants as outcome
 use Rattle.protocol.specs.declared.Stepped.{Stepped}
 use Rattle.protocol.specs.Program.{ended, wanting, refusing, Ending, Played, play}
@@ -48,19 +49,18 @@ longest = 164
 abbrev pub refusedBy : ℕ → Machine → List ℕ → Step
 refusedBy n m list = record { stepped = record { outcome = outcome.Refused n; machine = m; read = 0; written = 0 }; list = list }
 
--- a step that ends gives the program's machine, one that wants the machine given; both have listed their calls at the
--- front of the list, which is unchanged beyond them
+-- the calls stand at the front of the list, which is unchanged beyond them
+abbrev pub reports : Outcome → Machine → List ℕ → List Call → ℕ → Step
+reports o m list calls read =
+    record {
+      stepped = record { outcome = o; machine = m; read = read; written = length (callsOctets calls) };
+      list = writeAt list 0 (callsOctets calls);
+    }
+
+-- a step that ends gives the program's machine, one that wants the machine given
 abbrev pub stepped : Machine → List ℕ → List Call → ℕ → Ending Machine → Step
-stepped m list calls read (ended m₁) =
-    record {
-      stepped = record { outcome = outcome.Ended; machine = m₁; read = read; written = length (callsOctets calls) };
-      list = writeAt list 0 (callsOctets calls);
-    }
-stepped m list calls read wanting =
-    record {
-      stepped = record { outcome = outcome.Wants; machine = m; read = read; written = length (callsOctets calls) };
-      list = writeAt list 0 (callsOctets calls);
-    }
+stepped m list calls read (ended m₁) = reports outcome.Ended m₁ list calls read
+stepped m list calls read wanting = reports outcome.Wants m list calls read
 stepped m list calls read refusing = refusedBy 3 m list
 
 abbrev pub isAccepted : {A : Type 0} → Answer A → Bool
