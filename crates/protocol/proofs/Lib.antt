@@ -1,4 +1,5 @@
 pub mod Awaited
+pub mod Codes
 pub mod Programs
 pub mod Replies
 pub mod StepLaws
