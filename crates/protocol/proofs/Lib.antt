@@ -9,4 +9,5 @@ pub mod PeripheralBounds
 pub mod CentralBounds
 pub mod Limits
 pub mod Leaving
+pub mod Example
 pub mod FirstMove
