@@ -32,13 +32,16 @@ same-ways true c x = refl
 same-ways false true x = refl
 same-ways false false x = refl
 
+abbrev pub keypress : Input
+keypress = input.Command (commandCode command.KeypressNotification)
+
 -- a KeypressNotification, in any state
 pub keypress-leaves :
-    (r : Role) (m : Machine) (payload : List ℕ) → transitionOf r m (input.Command (commandCode command.KeypressNotification)) payload ≡ ret (ok m)
+    (r : Role) (m : Machine) (payload : List ℕ) → transitionOf r m keypress payload ≡ ret (ok m)
 unfolding central.transition peripheral.transition otherInput
 keypress-leaves Central m payload = at (m .phase)
   where
-    at : (p : Phase) → central.transitionFrom m payload (input.Command (commandCode command.KeypressNotification)) p ≡ ret (ok m)
+    at : (p : Phase) → central.transitionFrom m payload keypress p ≡ ret (ok m)
     at phase.WaitingPairingRequest = refl
     at phase.WaitingPairingResponse = refl
     at (phase.WaitingPassKeyInput b) = refl
@@ -53,7 +56,7 @@ keypress-leaves Central m payload = at (m .phase)
     at (phase.Error e) = refl
 keypress-leaves Peripheral m payload = at (m .phase)
   where
-    at : (p : Phase) → peripheral.transitionFrom m payload (input.Command (commandCode command.KeypressNotification)) p ≡ ret (ok m)
+    at : (p : Phase) → peripheral.transitionFrom m payload keypress p ≡ ret (ok m)
     at phase.WaitingPairingRequest = refl
     at phase.WaitingPairingResponse = refl
     at (phase.WaitingPassKeyInput b) = refl

@@ -1,6 +1,6 @@
--- Document 01's whole example, from the definition of a step: the passkey is awaited, and the passkey event is cancel. With
--- no answers the step wants the answer to 0x20; with answer 20 00 it ends. In either role, at any list that is long enough.
--- Assumes nothing.
+-- Document 01's whole example, from the definition of a step: the passkey is awaited, and the passkey event is cancel.
+-- With no answers the step wants the answer to 0x20; with answer 20 00 it ends. In either role, on any list that is long
+-- enough. Assumes nothing.
 use Prim.Native.Nat.{ℕ, _≤_}
 use mathlib.Core.Path.{_≡_}
 use mathlib.Core.List.{List, [], _∷_}
@@ -33,11 +33,16 @@ use Rattle.protocol.specs.Step.{playOf, callsOctets, longest, step}
 abbrev typing : ConfirmBytes → ConfirmPhaseData → PairingData → Machine
 typing b c d = record { phase = phase.WaitingPassKeyInput b; «confirm_data» = c; «pairing_data» = d }
 
+abbrev entryFailed : PairingData → Machine
+entryFailed d = enters (phase.Error (Security reason.PasskeyEntryFailed)) noConfirmData d
+
 abbrev cancel : Input
 cancel = input.Event event.PassKeyCancel
 
 -- three octets at the front of a list
-front : (list : List ℕ) → longest ≤ length list → (a b c : ℕ) → writeAt list 0 (a ∷ b ∷ c ∷ []) ≡ a ∷ b ∷ c ∷ drop 3 list
+front :
+    (list : List ℕ) → longest ≤ length list → (a b c : ℕ) →
+    writeAt list 0 (a ∷ b ∷ c ∷ []) ≡ a ∷ b ∷ c ∷ drop 3 list
 front list h a b c = written list 0 (a ∷ b ∷ c ∷ []) (omega arith)
 
 -- wants 0x20: list 20 01 01, written 3, read 0, the machine as it was
@@ -58,7 +63,7 @@ pub example-ends :
     (r : Role) (b : ConfirmBytes) (c : ConfirmPhaseData) (d : PairingData) (list : List ℕ) → longest ≤ length list →
     step r (typing b c d) cancel [] (0x20 ∷ 0x00 ∷ []) list
     ≡ record {
-      stepped = record { outcome = outcome.Ended; machine = enters (phase.Error (Security reason.PasskeyEntryFailed)) noConfirmData d; read = 2; written = 3 };
+      stepped = record { outcome = outcome.Ended; machine = entryFailed d; read = 2; written = 3 };
       list = 0x20 ∷ 0x01 ∷ 0x01 ∷ drop 3 list;
     }
 unfolding step playOf central.«handle_input» peripheral.«handle_input» central.transition peripheral.transition enter

@@ -4,8 +4,6 @@ use mathlib.Core.Path.{_≡_, refl}
 use mathlib.Core.Bool.{true}
 use mathlib.Core.List.{[], _∷_}
 use mathlib.Core.Option.{some}
-use Rattle.types.specs.Types.{featureOctets, commandCode}
-use Rattle.types.specs.declared.types.Command.the-variants as command
 use Rattle.answer.specs.Answers.{bodyAt, flagAt}
 use Rattle.host.specs.declared.call.Call.the-variants as call
 use Rattle.host.specs.declared.call.Question.the-variants as question
@@ -14,7 +12,7 @@ use Rattle.machine.specs.declared.Role.the-variants.{Central, Peripheral}
 use Rattle.machine.proofs.Canonical.{new-canonical, switch-canonical}
 use Rattle.protocol.specs.LegacyPeripheral.{«handle_pairing_request», transition, «handle_input»}
 use Rattle.protocol.specs.Step.{playOf, step}
-use Rattle.protocol.specs.FairLink.{Start, freshTerminal, freshHead, Shared, Packet, aPacket, Link, freshLink, stepAt, callsAt, Move, takePacket}
+use Rattle.protocol.specs.FairLink.{Start, freshTerminal, freshHead, Shared, aPacket, Link, requestOf, freshLink, stepAt, callsAt, Move, takePacket}
 
 pub terminal-canonical : (s : Start) → Canonical Central (freshTerminal s)
 unfolding freshTerminal
@@ -24,15 +22,20 @@ pub head-canonical : (s : Start) → Canonical Peripheral (freshHead s)
 unfolding freshHead
 head-canonical s = new-canonical _
 
-abbrev request : Start → Packet
-request s = record { code = commandCode command.PairingRequest; payload = featureOctets (s .request) }
-
 -- the head takes the request, lists 0x30 and wants its answer
 pub first-move :
     (w : Shared) (s : Start) →
     (L : Link) × Move w (freshLink s) true L
-    × (L .head .calls ≡ call.Ask question.FindBond ∷ []) × (L .head .openStep ≡ some (record { given = aPacket (request s); answers = [] }))
+    × (L .head .calls ≡ call.Ask question.FindBond ∷ [])
+    × (L .head .openStep ≡ some (record { given = aPacket (requestOf s); answers = [] }))
     × (L .head .machine ≡ freshHead s) × (L .head .queue ≡ [])
-unfolding freshLink freshHead newMachine stepAt callsAt step playOf «handle_input» transition «handle_pairing_request» bodyAt flagAt
-first-move w s =
-    (_, takePacket Peripheral (request s) [] [] refl refl refl (record { octets = tt; fair = tt }), refl, refl, refl, refl)
+unfolding freshLink freshHead newMachine stepAt callsAt step playOf «handle_input» transition «handle_pairing_request»
+    bodyAt flagAt
+first-move w s = (
+  _,
+  takePacket Peripheral (requestOf s) [] [] refl refl refl (record { octets = tt; fair = tt }),
+  refl,
+  refl,
+  refl,
+  refl,
+)

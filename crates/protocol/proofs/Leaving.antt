@@ -15,12 +15,10 @@ use Rattle.protocol.specs.LegacyCentral as central
 use Rattle.protocol.specs.LegacyPeripheral as peripheral
 use Rattle.protocol.specs.Step.{playOf, stepped, step}
 use Rattle.protocol.proofs.Bounds.{Broken, OfEnding, plays-within}
-use Rattle.types.specs.Types.{commandCode}
-use Rattle.types.specs.declared.types.Command.the-variants as command
 use Rattle.protocol.specs.Ops.{replyAt}
 use Rattle.protocol.proofs.HandlerBounds.{enter-within}
 use Rattle.protocol.proofs.Limits.{step-gives}
-use Rattle.protocol.proofs.Awaited.{transitionOf, keypress-leaves, Unawaited, passkey-leaves}
+use Rattle.protocol.proofs.Awaited.{transitionOf, keypress, keypress-leaves, Unawaited, passkey-leaves}
 
 -- entering a state gives its machine
 entering : (m : Machine) (answers : List ℕ) → OfEnding (λ x. x ≡ m) (play replyAt answers (enter m) 0 .ending)
@@ -34,18 +32,21 @@ leaves :
 unfolding playOf central.«handle_input» peripheral.«handle_input»
 leaves Central m i payload answers list h =
     step-gives (λ x. x ≡ m) Central m i payload answers list refl
-    (subst (λ (p : Handler Machine). OfEnding (λ x. x ≡ m) (play replyAt answers (bind p entered) 0 .ending)) (sym h) (entering m answers))
+    (subst (λ (p : Handler Machine). OfEnding (λ x. x ≡ m) (play replyAt answers (bind p entered) 0 .ending)) (sym h)
+    (entering m answers))
 leaves Peripheral m i payload answers list h =
     step-gives (λ x. x ≡ m) Peripheral m i payload answers list refl
-    (subst (λ (p : Handler Machine). OfEnding (λ x. x ≡ m) (play replyAt answers (bind p entered) 0 .ending)) (sym h) (entering m answers))
+    (subst (λ (p : Handler Machine). OfEnding (λ x. x ≡ m) (play replyAt answers (bind p entered) 0 .ending)) (sym h)
+    (entering m answers))
 
 pub keypress-step :
     (r : Role) (m : Machine) (payload answers list : List ℕ) →
-    step r m (input.Command (commandCode command.KeypressNotification)) payload answers list .stepped .machine ≡ m
+    step r m keypress payload answers list .stepped .machine ≡ m
 keypress-step r m payload answers list =
-    leaves r m (input.Command (commandCode command.KeypressNotification)) payload answers list (keypress-leaves r m payload)
+    leaves r m keypress payload answers list (keypress-leaves r m payload)
 
 pub passkey-step :
     (r : Role) (m : Machine) (e : Event) (payload answers list : List ℕ) → Unawaited e (m .phase) →
     step r m (input.Event e) payload answers list .stepped .machine ≡ m
-passkey-step r m e payload answers list h = leaves r m (input.Event e) payload answers list (passkey-leaves r m e payload h)
+passkey-step r m e payload answers list h =
+    leaves r m (input.Event e) payload answers list (passkey-leaves r m e payload h)

@@ -44,7 +44,8 @@ use Rattle.protocol.proofs.PeripheralBounds as peripheral-bounds
 
 -- a transition and the state that it enters
 most-within :
-    (r : Role) (m : Machine) (p : Handler Machine) → Moves r m p → Within Broken (Stays r m) mostCalls longest (bind p entered)
+    (r : Role) (m : Machine) (p : Handler Machine) → Moves r m p →
+    Within Broken (Stays r m) mostCalls longest (bind p entered)
 most-within r m p w =
     within-more Broken (Stays r m) (Stays r m) (bind p entered) 11 164 mostCalls longest (λ m₁ h. h) (lit≤ tt) (lit≤ tt)
     (entered-within r m p w)
@@ -124,7 +125,8 @@ pub canonical-step :
     Canonical r (step r m i payload answers list .stepped .machine)
 canonical-step r m i payload answers list h =
     step-gives (Canonical r) r m i payload answers list h
-    (ending-more (Stays r m) (Canonical r) (λ m₁ g. g h) (playOf r m i payload answers .ending) (play-limits r m i payload answers .gives))
+    (ending-more (Stays r m) (Canonical r) (λ m₁ g. g h) (playOf r m i payload answers .ending)
+    (play-limits r m i payload answers .gives))
 
 -- ---- the limits are reached
 

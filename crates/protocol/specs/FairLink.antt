@@ -1,6 +1,6 @@
--- The fair link, document 01's section "The fair link of demand 3", up to the word "run"; what it claims of runs stands in
--- FairRuns. It goes in the section's order, but that a word stands before it is used. The terminal is the central, the head
--- the peripheral. Assumes nothing.
+-- The fair link, document 01's section "The fair link of demand 3", up to the word "run"; what is claimed of runs stands
+-- in FairRuns. The order is the section's, but that a word stands before it is used. The terminal is the central, the
+-- head the peripheral. Assumes nothing.
 use Prim.Native.Nat.{ℕ, zero, suc, _≤_, _<_}
 use mathlib.Core.Path.{_≡_}
 use mathlib.Core.Bool.{Bool, true, false, cond, not, _&&_, _||_}
@@ -94,9 +94,9 @@ pub record FairStart (s : Start) : Type 0 where
 
 -- ---- what both ends' people and hosts share
 
--- OOB data is equal at both ends. Passkeys typed are equal to each other and to any shown or drawn to be shown, before or
--- after: one number in a run. Where the method has an end show it, that is `shown`, at most 999,999, else `typed`, which is
--- free. (There are two, since a start does not yet fix the method: the head's host may answer that OOB data is available.)
+-- OOB data is equal at both ends. Passkeys typed are equal to each other and to any shown or drawn to be shown, before
+-- or after: one number in a run. Where the method has an end show it, that is `shown`, at most 999,999, else `typed`,
+-- which is free. (There are two, since a start does not fix the method: the head's host may say that OOB data is there.)
 pub record Shared : Type 0 where
   pub oob : Word128
   pub shown : ℕ
@@ -213,13 +213,12 @@ linkOf Peripheral this that = record { terminal = that; head = this }
 abbrev pub freshEnd : Machine → List Packet → End
 freshEnd m queue = record { machine = m; queue = queue; due = []; openStep = none; calls = []; hadOob = false }
 
+abbrev pub requestOf : Start → Packet
+requestOf s = record { code = commandCode command.PairingRequest; payload = featureOctets (s .request) }
+
 -- at the start only the request is queued, to the head
 unfoldable pub freshLink : Start → Link
-freshLink s =
-    record {
-      terminal = freshEnd (freshTerminal s) [];
-      head = freshEnd (freshHead s) (record { code = commandCode command.PairingRequest; payload = featureOctets (s .request) } ∷ []);
-    }
+freshLink s = record { terminal = freshEnd (freshTerminal s) []; head = freshEnd (freshHead s) (requestOf s ∷ []) }
 
 -- ---- What a call does, when it is first listed
 
@@ -248,7 +247,10 @@ firstMakes kind e before c = cond (eqb (kindOf c) kind && not (hasListed kind be
 
 -- an end's first 0x23 makes the typed passkey due there, its first 0x25 the OOB data, its first 0x3A the report
 abbrev pub madeDueBy : List Call → Call → List Due
-madeDueBy before c = firstMakes 0x23 passKey before c ++ (firstMakes 0x25 oobData before c ++ firstMakes 0x3A encryptionOn before c)
+madeDueBy before c =
+    firstMakes 0x23 passKey before c
+    ++ (firstMakes 0x25 oobData before c
+    ++ firstMakes 0x3A encryptionOn before c)
 
 abbrev pub madeDueByAll : List Call → List Call → List Due
 madeDueByAll before [] = []
@@ -257,16 +259,20 @@ madeDueByAll before (c ∷ cs) = madeDueBy before c ++ madeDueByAll (before ++ (
 -- ---- A step of an end, by the definition of a step. Its list is long enough for any, so that none is refused by 1; that
 -- none is refused at all is claimed in FairRuns
 
-unfoldable pub stepAt : Shared → Role → Machine → Given → List ℕ → Step
-stepAt w r m g answers = step r m (inputOf w m g) (payloadOf g) answers (replicate longest 0)
+abbrev pub machineAt : Role → Link → Machine
+machineAt r L = endOf r L .machine
 
-unfoldable pub callsAt : Shared → Role → Machine → Given → List ℕ → List Call
-callsAt w r m g answers = playOf r m (inputOf w m g) (payloadOf g) answers .calls
+unfoldable pub stepAt : Shared → Role → Link → Given → List ℕ → Step
+stepAt w r L g answers =
+    step r (machineAt r L) (inputOf w (machineAt r L) g) (payloadOf g) answers (replicate longest 0)
+
+unfoldable pub callsAt : Shared → Role → Link → Given → List ℕ → List Call
+callsAt w r L g answers = playOf r (machineAt r L) (inputOf w (machineAt r L) g) (payloadOf g) answers .calls
 
 -- any host answers or none, so long as those that the step reaches are fair; what is left over is free
-pub record FairHost (w : Shared) (r : Role) (m : Machine) (g : Given) (answers : List ℕ) : Type 0 where
+pub record FairHost (w : Shared) (r : Role) (L : Link) (g : Given) (answers : List ℕ) : Type 0 where
   pub octets : AreOctets answers
-  pub fair : FairAnswers w (handleInput r m (inputOf w m g) (payloadOf g)) answers 0
+  pub fair : FairAnswers w (handleInput r (machineAt r L) (inputOf w (machineAt r L) g) (payloadOf g)) answers 0
 
 -- a step that wants is open, with its input and answers
 abbrev pub openAfter : Outcome → Given → List ℕ → Option OpenStep
@@ -282,15 +288,15 @@ hadOobAfter (anEvent encryptionOn) had = had
 
 -- an end after its step, with the packets and events that are left, and the calls that are new. The machine is the one
 -- that the step gives back: where it ends, the one for that end's next input; where it wants, the one that it had
-abbrev pub endAfter : Shared → Role → End → Given → List ℕ → List Packet → List Due → List Call → End
-endAfter w r e g answers queue due new =
+abbrev pub endAfter : Shared → Role → Link → Given → List ℕ → List Packet → List Due → List Call → End
+endAfter w r L g answers queue due new =
     record {
-      machine = stepAt w r (e .machine) g answers .stepped .machine;
+      machine = stepAt w r L g answers .stepped .machine;
       queue = queue;
-      due = due ++ madeDueByAll (e .calls) new;
-      openStep = openAfter (stepAt w r (e .machine) g answers .stepped .outcome) g answers;
-      calls = e .calls ++ new;
-      hadOob = hadOobAfter g (e .hadOob);
+      due = due ++ madeDueByAll (endOf r L .calls) new;
+      openStep = openAfter (stepAt w r L g answers .stepped .outcome) g answers;
+      calls = endOf r L .calls ++ new;
+      hadOob = hadOobAfter g (endOf r L .hadOob);
     }
 
 -- the other end: what is sent joins its queue. Nothing else changes, its machine least of all
@@ -307,7 +313,7 @@ receives new e =
 
 abbrev pub linkAfter : Shared → Role → Link → Given → List ℕ → List Packet → List Due → List Call → Link
 linkAfter w r L g answers queue due new =
-    linkOf r (endAfter w r (endOf r L) g answers queue due new) (receives new (endOf (other r) L))
+    linkOf r (endAfter w r L g answers queue due new) (receives new (endOf (other r) L))
 
 -- ---- A move
 
@@ -335,30 +341,31 @@ pub data Move (w : Shared) (L : Link) : Bool → Link → Type 0 where
   takePacket :
       (r : Role) (p : Packet) (queue : List Packet) (answers : List ℕ) →
       endOf r L .openStep ≡ none → endOf r L .queue ≡ p ∷ queue → reportDue (endOf r L .due) ≡ false →
-      FairHost w r (endOf r L .machine) (aPacket p) answers →
-      Move w L true (linkAfter w r L (aPacket p) answers queue (endOf r L .due) (callsAt w r (endOf r L .machine) (aPacket p) answers))
+      FairHost w r L (aPacket p) answers →
+      Move w L true
+      (linkAfter w r L (aPacket p) answers queue (endOf r L .due) (callsAt w r L (aPacket p) answers))
   -- .. or an event due there, which is due no more
   takeEvent :
       (r : Role) (e : Due) (earlier later : List Due) (answers : List ℕ) →
       endOf r L .openStep ≡ none → endOf r L .due ≡ earlier ++ (e ∷ later) → MayTake L r e →
-      FairHost w r (endOf r L .machine) (anEvent e) answers →
+      FairHost w r L (anEvent e) answers →
       Move w L true
-      (linkAfter w r L (anEvent e) answers (endOf r L .queue) (earlier ++ later) (callsAt w r (endOf r L .machine) (anEvent e) answers))
-  -- an open step is run again on the machine and input it had, its host answers kept and at least one added; a call counts
-  -- once, when first listed
+      (linkAfter w r L (anEvent e) answers (endOf r L .queue) (earlier ++ later) (callsAt w r L (anEvent e) answers))
+  -- an open step is run again on the machine and input it had, its host answers kept and at least one added; a call
+  -- counts once, when first listed
   runAgain :
       (r : Role) (g : Given) (kept : List ℕ) (x : ℕ) (added : List ℕ) →
       endOf r L .openStep ≡ some (record { given = g; answers = kept }) →
-      FairHost w r (endOf r L .machine) g (kept ++ (x ∷ added)) →
+      FairHost w r L g (kept ++ (x ∷ added)) →
       Move w L false
       (linkAfter w r L g (kept ++ (x ∷ added)) (endOf r L .queue) (endOf r L .due)
-      (drop (length (callsAt w r (endOf r L .machine) g kept)) (callsAt w r (endOf r L .machine) g (kept ++ (x ∷ added)))))
+      (drop (length (callsAt w r L g kept)) (callsAt w r L g (kept ++ (x ∷ added)))))
 
 -- the outcome of its step
 abbrev pub outcomeOf : {w : Shared} {L L₁ : Link} {i : Bool} → Move w L i L₁ → Outcome
-outcomeOf {w} {L} (takePacket r p queue answers o q d f) = stepAt w r (endOf r L .machine) (aPacket p) answers .stepped .outcome
-outcomeOf {w} {L} (takeEvent r e earlier later answers o q d f) = stepAt w r (endOf r L .machine) (anEvent e) answers .stepped .outcome
-outcomeOf {w} {L} (runAgain r g kept x added o f) = stepAt w r (endOf r L .machine) g (kept ++ (x ∷ added)) .stepped .outcome
+outcomeOf {w} {L} (takePacket r p queue answers o q d f) = stepAt w r L (aPacket p) answers .stepped .outcome
+outcomeOf {w} {L} (takeEvent r e earlier later answers o q d f) = stepAt w r L (anEvent e) answers .stepped .outcome
+outcomeOf {w} {L} (runAgain r g kept x added o f) = stepAt w r L g (kept ++ (x ∷ added)) .stepped .outcome
 
 -- ---- Lists of moves, and runs
 
@@ -369,7 +376,9 @@ countInput false n = n
 -- a list of allowed moves: how many they are, and how many of them are inputs
 pub data Moves (w : Shared) : Link → ℕ → ℕ → Link → Type 0 where
   noMove : {L : Link} → Moves w L zero zero L
-  move : {L L₁ L₂ : Link} {i : Bool} {moves inputs : ℕ} → Move w L i L₁ → Moves w L₁ moves inputs L₂ → Moves w L (suc moves) (countInput i inputs) L₂
+  move :
+      {L L₁ L₂ : Link} {i : Bool} {moves inputs : ℕ} →
+      Move w L i L₁ → Moves w L₁ moves inputs L₂ → Moves w L (suc moves) (countInput i inputs) L₂
 
 -- a run is a list of allowed moves after which none is allowed
 pub record Run (w : Shared) (L : Link) (moves inputs : ℕ) (L₁ : Link) : Type 0 where

@@ -1,5 +1,6 @@
--- Demand 3, the rest of document 01's section "The fair link of demand 3": what every run from a fair start comes to. First
--- the words of the claim, in the section's order, then the claim, which is one of whole lists of moves. Assumes nothing.
+-- Demand 3, the rest of document 01's section "The fair link of demand 3": what every run from a fair start comes to.
+-- First the words of the claim, in the section's order, then the claim, which is one of whole lists of moves. Assumes
+-- nothing.
 use Prim.Native.Nat.{ℕ, _+_, _*_, _≤_}
 use mathlib.Core.Path.{_≡_}
 use mathlib.Core.Bool.{Bool, true, false, cond, not, _&&_}
@@ -29,6 +30,7 @@ use Rattle.machine.specs.declared.Phase.the-variants as phase
 use Rattle.machine.specs.declared.Role.the-variants.{Peripheral}
 use Rattle.protocol.specs.declared.Outcome.{Outcome}
 use Rattle.protocol.specs.declared.Outcome.the-variants as outcome
+use Rattle.protocol.specs.declared.Stepped.{Stepped}
 use Rattle.protocol.specs.Handlers.{namesEncryptionKey, namesIdentityKey, smaller}
 use Rattle.protocol.specs.Step.{longest, step}
 use Rattle.protocol.specs.FairLink.{Start, FairStart, Shared, Link, freshLink, Move, outcomeOf, Moves, Run, Idle}
@@ -106,15 +108,21 @@ encryptionsIn (c ∷ cs) = encryptionIn c ++ encryptionsIn cs
 
 -- ---- how the ends stand
 
--- the head waits for the identity key: it is in neither Success nor Error, and would read an IdentityInformation, 0x08, as
--- that key
+-- a step of a head on an IdentityInformation, 0x08
+abbrev pub onIdentityInformation : Machine → List ℕ → Stepped
+onIdentityInformation m payload =
+    step Peripheral m (input.Command (commandCode command.IdentityInformation)) payload [] (replicate longest 0) .stepped
+
+-- the head waits for the identity key: it is in neither Success nor Error, and would read an IdentityInformation as that
+-- key, so that its bond would have it
 pub record WaitsForIdentityKey (m : Machine) : Type 0 where
   pub pending : resultOf (m .phase) ≡ result.Pending
   pub reads :
       (payload : List ℕ) → length payload ≡ 16 →
-      let s = step Peripheral m (input.Command (commandCode command.IdentityInformation)) payload [] (replicate longest 0) .stepped in
+      let s = onIdentityInformation m payload in
       (s .outcome ≡ outcome.Ended)
-      × ((b : BondInformation) × (s .machine .«pairing_data» .«bond_information» ≡ option.Some b) × (b .identity .irk .0 ≡ wordOf payload))
+      × ((b : BondInformation) × (s .machine .«pairing_data» .«bond_information» ≡ option.Some b)
+      × (b .identity .irk .0 ≡ wordOf payload))
 
 -- the one excepted case: no common wish to bond, and the request names the terminal's identity key
 abbrev pub excepted : PairingFeatures → PairingFeatures → Bool
@@ -123,6 +131,10 @@ excepted request answer = not (bothBond request answer) && namesIdentityKey (req
 abbrev pub HeadEnds : (excepted : Bool) → Machine → Type 0
 HeadEnds true m = WaitsForIdentityKey m
 HeadEnds false m = m .phase ≡ phase.Success
+
+-- the smaller maximum of request and answer
+abbrev pub negotiated : PairingFeatures → PairingFeatures → ℕ
+negotiated request answer = smaller (request .«maximum_encryption_key_size») (answer .«maximum_encryption_key_size»)
 
 -- both bonds hold the same LTK, cut to the negotiated size, EDIV and Rand
 pub record SameBonds (size : ℕ) (terminal head : Machine) : Type 0 where
@@ -159,7 +171,7 @@ pub record RunEnds (request : PairingFeatures) (inputs : ℕ) (L : Link) : Type 
   -- if both bond and the answer names the responder's encryption key, both bonds hold the same keys
   pub sameBonds :
       bothBond request answer ≡ true → namesEncryptionKey (answer .«responder_key_distribution») ≡ true →
-      SameBonds (smaller (request .«maximum_encryption_key_size») (answer .«maximum_encryption_key_size»)) (L .terminal .machine) (L .head .machine)
+      SameBonds (negotiated request answer) (L .terminal .machine) (L .head .machine)
 
 abbrev pub NotRefused : Outcome → Type 0
 NotRefused outcome.Ended = Unit {0}

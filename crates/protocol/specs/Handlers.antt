@@ -186,6 +186,10 @@ enters p c d = record { phase = p; «confirm_data» = keptBy p c; «pairing_data
 abbrev pub confirmData : Word128 → List ℕ → List ℕ → ConfirmPhaseData
 confirmData tk preq pres = record { tk = tk; preq = preq; pres = pres; «local_nonce» = record { 0 = zeroWord } }
 
+-- with a temporary key, and no nonce yet
+abbrev pub withTk : ConfirmPhaseData → Word128 → ConfirmPhaseData
+withTk c tk = confirmData tk (c .preq) (c .pres)
+
 abbrev pub withNonce : ConfirmPhaseData → Nonce → ConfirmPhaseData
 withNonce c n = record { tk = c .tk; preq = c .preq; pres = c .pres; «local_nonce» = n }
 
@@ -241,7 +245,8 @@ abbrev pub smaller : ℕ → ℕ → ℕ
 smaller a b = cond (ltb a b) a b
 
 unfoldable pub negotiatedKeySize : PairingData → ℕ
-negotiatedKeySize d = smaller (d .«peer_features» .«maximum_encryption_key_size») (d .«local_features» .«maximum_encryption_key_size»)
+negotiatedKeySize d =
+    smaller (d .«peer_features» .«maximum_encryption_key_size») (d .«local_features» .«maximum_encryption_key_size»)
 
 -- the responder's keys in the bond, the LTK cut to the negotiated size
 unfoldable pub withKeys : LongTermKey → ℕ → ℕ → PairingData → PairingData

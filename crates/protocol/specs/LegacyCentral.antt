@@ -1,7 +1,8 @@
 -- legacy_central.rs, the initiator: each of its functions as a program of host calls, under its name in «». What a
--- function calls stands before it, so the FSM core comes last; else the order is the file's. `enter`, `store_confirm_bytes`,
--- `handle_encryption_information` and `handle_identity_information`, in the same words in both files, stand in Handlers;
--- `result`, `is_encrypted` and `from_lesc_switch` stand with the machine; `mark_timeout` is left out with the timer. Assumes nothing.
+-- function calls stands before it, so the FSM core comes last; else the order is the file's. In the same words in both
+-- files, and so in Handlers: `enter`, `store_confirm_bytes`, `handle_encryption_information`,
+-- `handle_identity_information`. With the machine stand `result`, `is_encrypted` and `from_lesc_switch`; `mark_timeout` is
+-- left out with the timer. Assumes nothing.
 use Prim.Native.Nat.{ℕ}
 use mathlib.Core.Bool.{Bool, true, false}
 use mathlib.Core.List.{List}
@@ -34,7 +35,7 @@ use Rattle.machine.specs.declared.Phase.{Phase}
 use Rattle.machine.specs.declared.Phase.the-variants as phase
 use Rattle.protocol.specs.Program.{bind}
 use Rattle.protocol.specs.Ops.{Program}
-use Rattle.protocol.specs.Handlers.{Handler, _>>=_, _>>_, give, fail, orFail, sendPacket, sendEvent, drawn, wordIn, featuresIn, identificationIn, addressIn, commandOctets, namesEncryptionKey, namesIdentityKey, enters, confirmData, withNonce, passKeyTk, withFeatures, withKeys, withIdentityAddress, onCommand, onLinkEncrypted, onPassKeyInput, onPassKeyCancel, onOobData, onReceivingKeys, otherInput, entered, «store_confirm_bytes», sendEncryptionKey, sendIdentityKey, enableEncryption, «handle_encryption_information», «handle_identity_information»}
+use Rattle.protocol.specs.Handlers.{Handler, _>>=_, _>>_, give, fail, orFail, sendPacket, sendEvent, drawn, wordIn, featuresIn, identificationIn, addressIn, commandOctets, namesEncryptionKey, namesIdentityKey, enters, confirmData, withTk, withNonce, passKeyTk, withFeatures, withKeys, withIdentityAddress, onCommand, onLinkEncrypted, onPassKeyInput, onPassKeyCancel, onOobData, onReceivingKeys, otherInput, entered, «store_confirm_bytes», sendEncryptionKey, sendIdentityKey, enableEncryption, «handle_encryption_information», «handle_identity_information»}
 
 -- `addr_type_flag`; the octets of an address are as on the air, so `addr_bytes_mso` is not needed
 abbrev pub «addr_type_flag» : Address → ℕ
@@ -101,7 +102,7 @@ afterMconfirm c d stored.None = give (enters phase.WaitingPairingConfirm c d)
 
 unfoldable pub «handle_pass_key_input» : ConfirmPhaseData → PairingData → ℕ → ConfirmBytes → Handler Machine
 «handle_pass_key_input» c d input confirmBytes = do
-  c₁ ← «send_mconfirm» (confirmData (passKeyTk input) (c .preq) (c .pres)) d
+  c₁ ← «send_mconfirm» (withTk c (passKeyTk input)) d
   afterMconfirm c₁ d confirmBytes
 
 -- ---- Protocol helpers
@@ -131,8 +132,8 @@ unfoldable pub «handle_pairing_response» : ConfirmPhaseData → PairingData �
 «handle_pairing_response» c d payload = do
   peer ← orFail d (Security reason.InvalidParameters) (featuresIn payload)
   let local = d .«local_features»
-  beginMethod (c .preq) (commandOctets command.PairingResponse payload)
-      (withFeatures local peer (legacyMethod local peer) d) (legacyMethod local peer)
+  let d₁ = withFeatures local peer (legacyMethod local peer) d
+  beginMethod (c .preq) (commandOctets command.PairingResponse payload) d₁ (d₁ .«pairing_method»)
 
 -- Srand has to agree with Sconfirm
 abbrev pub onSrand : ConfirmPhaseData → PairingData → Nonce → (agrees : Bool) → Handler Machine

@@ -1,7 +1,8 @@
 -- legacy_peripheral.rs, the responder: each of its functions as a program of host calls, under its name in «». What a
--- function calls stands before it, so the FSM core comes last; else the order is the file's. `enter`, `store_confirm_bytes`,
--- `handle_encryption_information` and `handle_identity_information`, in the same words in both files, stand in Handlers;
--- `result`, `is_encrypted` and `new` stand with the machine; `mark_timeout` is left out with the timer. Assumes nothing.
+-- function calls stands before it, so the FSM core comes last; else the order is the file's. In the same words in both
+-- files, and so in Handlers: `enter`, `store_confirm_bytes`, `handle_encryption_information`,
+-- `handle_identity_information`. With the machine stand `result`, `is_encrypted` and `new`; `mark_timeout` is left out
+-- with the timer. Assumes nothing.
 use Prim.Native.Nat.{ℕ}
 use mathlib.Core.Bool.{Bool, true, false, not}
 use mathlib.Core.List.{List}
@@ -42,7 +43,7 @@ use Rattle.machine.specs.declared.Phase.{Phase}
 use Rattle.machine.specs.declared.Phase.the-variants as phase
 use Rattle.protocol.specs.Program.{bind}
 use Rattle.protocol.specs.Ops.{Program}
-use Rattle.protocol.specs.Handlers.{Handler, _>>=_, _>>_, give, fail, orFail, sendPacket, sendEvent, attemptEvent, asked, drawn, bondedEncryption, wordIn, featuresIn, identificationIn, addressIn, commandOctets, namesEncryptionKey, namesIdentityKey, enters, confirmData, withNonce, passKeyTk, withFeatures, withBond, withKeys, withIdentityAddress, onCommand, onLinkEncrypted, onPassKeyInput, onPassKeyCancel, onOobData, onReceivingKeys, otherInput, entered, «store_confirm_bytes», sendEncryptionKey, sendIdentityKey, enableEncryption, «handle_encryption_information», «handle_identity_information»}
+use Rattle.protocol.specs.Handlers.{Handler, _>>=_, _>>_, give, fail, orFail, sendPacket, sendEvent, attemptEvent, asked, drawn, bondedEncryption, wordIn, featuresIn, identificationIn, addressIn, commandOctets, namesEncryptionKey, namesIdentityKey, enters, confirmData, withTk, withNonce, passKeyTk, withFeatures, withBond, withKeys, withIdentityAddress, onCommand, onLinkEncrypted, onPassKeyInput, onPassKeyCancel, onOobData, onReceivingKeys, otherInput, entered, «store_confirm_bytes», sendEncryptionKey, sendIdentityKey, enableEncryption, «handle_encryption_information», «handle_identity_information»}
 
 -- `addr_type_flag`; the octets of an address are as on the air, so `addr_bytes_mso` is not needed
 abbrev pub «addr_type_flag» : Address → ℕ
@@ -105,8 +106,8 @@ unfoldable pub «handle_peer_confirm» : ConfirmPhaseData → PairingData → Li
 
 -- an early confirm value is answered as soon as the passkey is typed
 unfoldable pub «handle_pass_key_input» : ConfirmPhaseData → PairingData → ℕ → ConfirmBytes → Handler Machine
-«handle_pass_key_input» c d input (stored.Some confirm) = answerConfirm (confirmData (passKeyTk input) (c .preq) (c .pres)) d confirm
-«handle_pass_key_input» c d input stored.None = give (enters phase.WaitingPairingConfirm (confirmData (passKeyTk input) (c .preq) (c .pres)) d)
+«handle_pass_key_input» c d input (stored.Some confirm) = answerConfirm (withTk c (passKeyTk input)) d confirm
+«handle_pass_key_input» c d input stored.None = give (enters phase.WaitingPairingConfirm (withTk c (passKeyTk input)) d)
 
 -- ---- Protocol helpers
 
@@ -121,11 +122,13 @@ addKey i f false = f
 
 -- what the request names is added to what the local features name
 unfoldable pub initiatorKeys : KeyDistributionFlags → KeyDistributionFlags → KeyDistributionFlags
-initiatorKeys local peer = addKey encryptionKeyFlag (addKey identityKeyFlag local (namesIdentityKey peer)) (namesEncryptionKey peer)
+initiatorKeys local peer =
+    addKey encryptionKeyFlag (addKey identityKeyFlag local (namesIdentityKey peer)) (namesEncryptionKey peer)
 
 -- .. of the identity key only where `offered`
 unfoldable pub responderKeys : KeyDistributionFlags → KeyDistributionFlags → (offered : Bool) → KeyDistributionFlags
-responderKeys local peer offered = addKey encryptionKeyFlag (addKey identityKeyFlag local offered) (namesEncryptionKey peer)
+responderKeys local peer offered =
+    addKey encryptionKeyFlag (addKey identityKeyFlag local offered) (namesEncryptionKey peer)
 
 -- without a local IRK, identity key distribution is declined
 abbrev pub identityOffered : (named : Bool) → Handler Bool
@@ -158,8 +161,10 @@ responseFeatures local peer offered bonding available =
       «use_oob» = withOob (local .«use_oob») available;
       «security_properties» = withMitm (newLegacy bonding) (local .«io_capabilities»);
       «maximum_encryption_key_size» = local .«maximum_encryption_key_size»;
-      «initiator_key_distribution» = initiatorKeys (local .«initiator_key_distribution») (peer .«initiator_key_distribution»);
-      «responder_key_distribution» = responderKeys (local .«responder_key_distribution») (peer .«responder_key_distribution») offered;
+      «initiator_key_distribution» =
+          initiatorKeys (local .«initiator_key_distribution») (peer .«initiator_key_distribution»);
+      «responder_key_distribution» =
+          responderKeys (local .«responder_key_distribution») (peer .«responder_key_distribution») offered;
     }
 
 abbrev pub respondTo : PairingData → PairingFeatures → PairingFeatures → PairingData
@@ -191,7 +196,9 @@ unfoldable pub «handle_pairing_request» : PairingData → List ℕ → Handler
   let local = responseFeatures (d .«local_features») peer offered bonding available
   let d₁ = respondTo d peer local
   sendPacket d₁ (packet.PairingResponse local)
-  beginMethod (commandOctets command.PairingRequest payload) (commandOctets command.PairingResponse (featureOctets local)) d₁ (legacyMethod peer local)
+  let preq = commandOctets command.PairingRequest payload
+  let pres = commandOctets command.PairingResponse (featureOctets local)
+  beginMethod preq pres d₁ (d₁ .«pairing_method»)
 
 -- Srand goes out only where Mrand agrees with Mconfirm
 abbrev pub onMrand : ConfirmPhaseData → PairingData → Nonce → (agrees : Bool) → Handler Machine
@@ -235,7 +242,7 @@ transitionFrom m payload i (phase.WaitingPassKeyInput confirmBytes) =
     (onPassKeyCancel i (fail (m .«pairing_data») (Security reason.PasskeyEntryFailed))
     (otherInput m payload i)))
 transitionFrom m payload i phase.WaitingOobData =
-    onOobData i (λ random. give (enters phase.WaitingPairingConfirm (confirmData random (m .«confirm_data» .preq) (m .«confirm_data» .pres)) (m .«pairing_data»)))
+    onOobData i (λ random. give (enters phase.WaitingPairingConfirm (withTk (m .«confirm_data») random) (m .«pairing_data»)))
     (otherInput m payload i)
 transitionFrom m payload i phase.WaitingPairingConfirm =
     onCommand command.PairingConfirm i («handle_peer_confirm» (m .«confirm_data») (m .«pairing_data») payload)

@@ -39,6 +39,7 @@ listing c x = record { ending = x .ending; calls = c ∷ x .calls; place = x .pl
 
 -- a program's play on the answers s from a place on: each call is listed, then its answer is read
 abbrev pub play :
-    {C : Type 0} {R : C → Type 0} {O A : Type 0} → ((c : C) → List O → ℕ → Taken (R c)) → List O → Prog C R A → ℕ → Played C A
+    {C : Type 0} {R : C → Type 0} {O A : Type 0} → ((c : C) → List O → ℕ → Taken (R c)) →
+    List O → Prog C R A → ℕ → Played C A
 play read s (ret a) at = record { ending = ended a; calls = []; place = at }
 play read s (ask c k) at = listing c (onTaken at (λ x n. play read s (k x) n) (read c s at))

@@ -1,5 +1,5 @@
--- A step on octets, document 01 ("Paired or failed", "What is turned back"): the dispatch of pairing/mod.rs over the role,
--- refusals, and what the caller gets. Assumes nothing.
+-- A step on octets, document 01 ("Paired or failed", "What is turned back"): the dispatch of pairing/mod.rs over the
+-- role, refusals, and what the caller gets. Assumes nothing.
 use Prim.Native.Nat.{ℕ}
 use mathlib.Core.Bool.{Bool, true, false, cond}
 use mathlib.Core.List.{List, map}
@@ -47,7 +47,11 @@ longest = 164
 
 -- a refused step: the machine given, counts 0, the list untouched
 abbrev pub refusedBy : ℕ → Machine → List ℕ → Step
-refusedBy n m list = record { stepped = record { outcome = outcome.Refused n; machine = m; read = 0; written = 0 }; list = list }
+refusedBy n m list =
+    record {
+      stepped = record { outcome = outcome.Refused n; machine = m; read = 0; written = 0 };
+      list = list;
+    }
 
 -- the calls stand at the front of the list, which is unchanged beyond them
 abbrev pub reports : Outcome → Machine → List ℕ → List Call → ℕ → Step
@@ -78,5 +82,5 @@ unfoldable pub step : Role → Machine → Input → List ℕ → List ℕ → L
 step r m i payload answers list =
     cond (ltb (length list) longest) (refusedBy 1 m list)
     (cond (isKnown i)
-    (stepped m list (playOf r m i payload answers .calls) (playOf r m i payload answers .place) (playOf r m i payload answers .ending))
+    (let x = playOf r m i payload answers in stepped m list (x .calls) (x .place) (x .ending))
     (refusedBy 2 m list))
