@@ -1,6 +1,5 @@
 // Host calls, in the place of the Rust's PairingOps and its generator, as document 01 writes them.
 pub mod call;
-pub mod list;
 
 pub use call::Call;
 pub use call::ConnectionEvent;

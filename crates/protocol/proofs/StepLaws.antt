@@ -11,9 +11,9 @@ use borrow.Author.Tests.{lt-ltb, le-ltb}
 use Rattle.octets.specs.Answer.{accepted}
 use Rattle.octets.specs.Octets.{writeAt}
 use Rattle.host.specs.Calls.{callOctets, allOctets}
-use Rattle.host.specs.CallList.{callsOf, recordsFrom}
+use Rattle.call_list.specs.CallList.{callsOf, recordsFrom}
 use Rattle.host.specs.declared.call.Call.{Call}
-use Rattle.host.proofs.Listing.{read-back}
+use Rattle.call_list.proofs.Listing.{read-back}
 use Rattle.machine.specs.declared.Input.{Input}
 use Rattle.machine.specs.declared.Machine.{Machine}
 use Rattle.machine.specs.declared.Role.{Role}

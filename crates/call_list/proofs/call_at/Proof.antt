@@ -1,11 +1,11 @@
--- `host::list::call_at` meets its contract. Assumes nothing.
+-- `call_list::call_at` meets its contract. Assumes nothing.
 use mathlib.Core.Path.{sym, ap, _∙_}
-use Rattle.host.specs.CallList.{checkedAnswer}
+use Rattle.call_list.specs.CallList.{checkedAnswer}
 use native.Mathlib.Omega.{arith}
-use Rattle.host.proofs.Listing.{call-known, none-known, call-refused}
+use Rattle.call_list.proofs.Listing.{call-known, none-known, call-refused}
 use borrow.Author.Needs.{needs}
-use Rattle.host.proofs.list.call_at.Statement.{statement}
-use Rattle.host.proofs.list.call_at.Tie as tie
+use Rattle.call_list.proofs.call_at.Statement.{statement}
+use Rattle.call_list.proofs.call_at.Tie as tie
 
 returns : tie.Need-returns
 returns c = call-known _ _ (sym (ap checkedAnswer (c .before .before .count .given .1)) ∙ c .before .before .before .before .check .ensures) (omega arith)

@@ -11,11 +11,11 @@ use lib.ListN.{length, getD, take, drop, length-append, length-drop, take-append
 use lib.Seq.{length-take-le, drop-cons, drop-drop, drop-append-seam, getD-at}
 use Rattle.octets.specs.Answer.{Answer, refused, accepted, andThen}
 use Rattle.types.proofs.Tables.{refused≢accepted}
 use Rattle.host.specs.Calls.{bodyOf, callOctets, allOctets, bodyLength}
-use Rattle.host.specs.CallList.{begins, callsFrom, callsOf, recordsFrom, noCall, checkedOf, countOf, callIn, callAtOf, sizeOf, endToEnd}
+use Rattle.call_list.specs.CallList.{begins, callsFrom, callsOf, recordsFrom, noCall, checkedOf, countOf, callIn, callAtOf, sizeOf, endToEnd}
 use Rattle.host.specs.declared.call.Slot.{Slot}
-use Rattle.host.specs.declared.list.CallRecord.{CallRecord}
+use Rattle.call_list.specs.declared.CallRecord.{CallRecord}
 use Rattle.host.proofs.Writing.{body-length}
 
 -- ---- a body is passed over, or it is cut
 

@@ -1,10 +1,10 @@
--- `host::list::count_calls` meets its contract. Assumes nothing.
+-- `call_list::count_calls` meets its contract. Assumes nothing.
 use mathlib.Core.Path.{sym, ap, _∙_}
-use Rattle.host.specs.CallList.{checkedAnswer}
-use Rattle.host.proofs.Listing.{count-known, count-refused}
+use Rattle.call_list.specs.CallList.{checkedAnswer}
+use Rattle.call_list.proofs.Listing.{count-known, count-refused}
 use borrow.Author.Needs.{needs}
-use Rattle.host.proofs.list.count_calls.Statement.{statement}
-use Rattle.host.proofs.list.count_calls.Tie as tie
+use Rattle.call_list.proofs.count_calls.Statement.{statement}
+use Rattle.call_list.proofs.count_calls.Tie as tie
 
 returns : tie.Need-returns
 returns c = count-known _ 0 (sym (ap checkedAnswer (c .before .count .given .1)) ∙ c .before .before .before .check .ensures)

@@ -4,15 +4,15 @@ use mathlib.Core.Option.{Option, none, some}
 use mathlib.Core.List.{List, [], _∷_, _++_}
 use lib.ListN.{length, getD, take, drop}
 use Rattle.octets.specs.Answer.{Answer, refused, accepted, andThen}
 use Rattle.host.specs.Calls.{kindOf, callOctets, bodyLength}
 use Rattle.host.specs.declared.call.Slot.{Slot}
-use Rattle.host.specs.declared.list.CallRecord.{CallRecord}
-use Rattle.host.specs.declared.list.CallCount.{CallCount}
-use Rattle.host.specs.declared.list.CallCount.the-variants as call-count
-use Rattle.host.specs.declared.list.CallAt.{CallAt}
-use Rattle.host.specs.declared.list.CallAt.the-variants as call-at
-use Rattle.host.specs.declared.list.Checked.{Checked}
-use Rattle.host.specs.declared.list.Checked.the-variants as checked
+use Rattle.call_list.specs.declared.CallRecord.{CallRecord}
+use Rattle.call_list.specs.declared.CallCount.{CallCount}
+use Rattle.call_list.specs.declared.CallCount.the-variants as call-count
+use Rattle.call_list.specs.declared.CallAt.{CallAt}
+use Rattle.call_list.specs.declared.CallAt.the-variants as call-at
+use Rattle.call_list.specs.declared.Checked.{Checked}
+use Rattle.call_list.specs.declared.Checked.the-variants as checked
 
 -- a call of kind k begins, whose body stands at place at: the rest of the list is read behind its body
 abbrev pub begins : ℕ → ℕ → Option ℕ → (ℕ → Answer (List CallRecord)) → Answer (List CallRecord)

@@ -1,8 +1,8 @@
 // Reading a call list: the whole list is checked before anything is returned, and a body's values are not looked at.
 ghost use mathlib.Core.Path.{_≡_};
-ghost use Rattle.host.specs.CallList.{countOf, callAtOf, countAnswer, callAnswer, checkedAnswer, checkedOf};
-use crate::call::BodyLength;
-use crate::call::body_length;
+ghost use Rattle.call_list.specs.CallList.{countOf, callAtOf, countAnswer, callAnswer, checkedAnswer, checkedOf};
+use host::call::BodyLength;
+use host::call::body_length;
 
 // A call of a list: its kind, and the place of its body.
 pub struct CallRecord {

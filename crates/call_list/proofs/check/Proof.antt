@@ -1,15 +1,15 @@
--- `host::list::check` meets its contract. Assumes nothing.
+-- `call_list::check` meets its contract. Assumes nothing.
 use mathlib.Core.Logic.{⊎-elim}
 use mathlib.Core.Path.{_≡_, refl, sym, ap, _∙_}
 use Prim.Native.Nat.{_-_}
 use native.Mathlib.Omega.{arith}
 use lib.ListN.{length}
 use Rattle.host.specs.Calls.{bodySize}
-use Rattle.host.specs.CallList.{checkedOf}
-use Rattle.host.proofs.Listing.{Seen, seen-none, seen-unknown, seen-cut, seen-more, seen-all, last-here, not-last, same-call}
+use Rattle.call_list.specs.CallList.{checkedOf}
+use Rattle.call_list.proofs.Listing.{Seen, seen-none, seen-unknown, seen-cut, seen-more, seen-all, last-here, not-last, same-call}
 use borrow.Author.Needs.{needs}
-use Rattle.host.proofs.list.check.Statement.{statement}
-use Rattle.host.proofs.list.check.Tie as tie
+use Rattle.call_list.proofs.check.Statement.{statement}
+use Rattle.call_list.proofs.check.Tie as tie
 
 abbrev Inv-loop : tie.InvT-loop
 Inv-loop list index len at₀ count₀ kind₀ body₀ at count kind body = Seen list index at count kind body × (len ≡ length list)
