@@ -19,11 +19,12 @@ use Rattle.machine.specs.declared.Machine.{Machine}
 use Rattle.machine.specs.declared.Role.{Role}
 use Rattle.protocol.specs.declared.Outcome.{Outcome}
 use Rattle.protocol.specs.declared.Outcome.the-variants as outcome
-use Rattle.protocol.specs.Program.{Ending, ended, wanting, refusing, Played}
+use Rattle.protocol.specs.Program.{Ending, ended, wanting, refusing, Played, play}
 use Rattle.protocol.specs.Ops.{answerSize, replyAt}
 use Rattle.protocol.specs.Step.{handleInput, playOf, callsOctets, Step, longest, refusedBy, stepped, isKnown, step}
 use Rattle.protocol.proofs.Programs.{total, place-ended, place-wanting, wanting-last}
-use Rattle.protocol.proofs.Programs.{play-left-over, play-again, again-further}
+use Rattle.protocol.proofs.Programs.{rest, answered, play-left-over, play-again}
+use Rattle.protocol.proofs.Programs.{again-ending, again-place, again-calls, again-further}
 use Rattle.protocol.proofs.Replies.{reads, reply-size}
 
 -- ---- the octets of calls
@@ -235,6 +236,28 @@ module _ (r : Role) (m : Machine) (i : Input) (payload answers list : List ℕ) 
       same-step r m i payload answers list (take (step r m i payload answers list .stepped .read) answers ++ w)
       (ap (λ (n : ℕ). playOf r m i payload (take n answers ++ w)) read-is
       ∙ play-left-over replyAt reads answers w (handleInput r m i payload) 0 (q .1))
+
+  -- a step that wants, made again with more answers, goes on where it stopped: as what is left of its program, from the end
+  -- of the first answers on, with the calls that were answered before in front
+  pub step-continues : (more : List ℕ) → step r m i payload answers list .stepped .outcome ≡ outcome.Wants
+      → let all = answers ++ more in
+      let p = handleInput r m i payload in
+      let left = play replyAt all (rest replyAt answers p 0) (length answers) in
+      (playOf r m i payload all .ending ≡ left .ending) × (playOf r m i payload all .place ≡ left .place)
+      × (playOf r m i payload all .calls ≡ answered replyAt answers p 0 ++ left .calls)
+  unfolding playOf
+  step-continues more h =
+      let p = handleInput r m i payload in
+      let q = wants-play r m i payload answers list h in
+      let end = wanting-last replyAt reads answers p 0 (q .0) .5 in (
+        subst (λ (n : ℕ). play replyAt (answers ++ more) p 0 .ending
+            ≡ play replyAt (answers ++ more) (rest replyAt answers p 0) n .ending) end (again-ending replyAt reads answers more p 0),
+        subst (λ (n : ℕ). play replyAt (answers ++ more) p 0 .place
+            ≡ play replyAt (answers ++ more) (rest replyAt answers p 0) n .place) end (again-place replyAt reads answers more p 0),
+        subst (λ (n : ℕ). play replyAt (answers ++ more) p 0 .calls
+            ≡ answered replyAt answers p 0 ++ play replyAt (answers ++ more) (rest replyAt answers p 0) n .calls) end
+            (again-calls replyAt reads answers more p 0),
+      )
 
   -- a step that wants, made again with more answers and not refused, lists the same calls, in the same octets, before what
   -- is new, and reads no less

@@ -101,7 +101,7 @@ pub record Shared : Type 0 where
   pub oob : Word128
   pub shown : ℕ
   pub typed : ℕ
-  pub shownLeast : shown ≤ passKeyMax
+  pub shownMost : shown ≤ passKeyMax
 
 -- whether the method has an end show the passkey
 abbrev pub shows : PairingMethod → Bool
