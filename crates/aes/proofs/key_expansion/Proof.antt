@@ -1,7 +1,7 @@
 -- `aes::key_expansion` meets its contract. Assumes nothing.
-use mathlib.Core.Path.{_≡_, refl, sym, _∙_}
+use mathlib.Core.Path.{_≡_, refl, sym, ap, ap₂, _∙_}
 use mathlib.Core.List.{List, [], _++_, append-nil}
-use Prim.Native.Nat.{ℕ, suc, _+_, _-_, _*_, _≤_}
+use Prim.Native.Nat.{ℕ, suc, _+_, _-_, _*_, _≤_, _<_}
 use native.Mathlib.Numerals.{add-one}
 use native.Mathlib.Omega.{arith}
 use borrow.Author.Needs.{needs}
@@ -9,8 +9,9 @@ use lib.ListN.{length, replicate, length-append, length-replicate}
 use Rattle.octets.specs.Octets.{writeAt}
 use Rattle.octets.proofs.Lists.{drop-replicate}
 use Rattle.octets.proofs.Parts.{write-next}
+use Rattle.aes.specs.Gf.{xtime}
 use Rattle.aes.specs.Aes.{power, expand, keyExpansion, roundKey}
-use Rattle.aes.specs.Columns.{octets}
+use Rattle.aes.specs.Columns.{octets, nextKey}
 use Rattle.aes.specs.declared.Block.{Block}
 use Rattle.aes.proofs.Columns.{octets-length}
 use Rattle.aes.proofs.Schedule.{first-round-key, next-round-key, length-expand, expand-next}
@@ -55,19 +56,27 @@ loop-holds c =
     let words : c .before .before .write .last .0 ≡ expand 0 k ++ replicate 160 0 = c .before .before .write .ensures .slice ∙ rw (← c .load .ensures) (key-written k n) in
     record { bound = omega arith; size = filled 0 k _ (omega arith) n words; words = words; round-key = sym (first-round-key k n); constant = refl }
 
-loop-again : tie.Need-loop-again Inv-loop μ-loop
+-- one round key more
+expanded-more : {k₀ k next : Block} {w words w₁ : List ℕ} {r r₁ i : ℕ} → Expanded k₀ k w r i → i < 10 → octets next ≡ nextKey r (octets k)
+    → words ≡ octets next → w₁ ≡ writeAt w (16 * i + 16) words → r₁ ≡ xtime r → Expanded k₀ next w₁ r₁ (i + 1)
 unfolding power
+expanded-more {k₀} {next = next} {i = i} e h a b d f =
+    let k = octets k₀ in
+    let n = octets-length k₀ in
+    let key = a ∙ ap₂ nextKey (e .constant) (e .round-key) ∙ sym (next-round-key i k h n) in
+    let last = b ∙ key in
+    let filled-words = d ∙ round-written i k _ _ (omega arith) n last (ap length b ∙ octets-length next) (e .words) in
+    rw add-one
+    (record { bound = h; size = filled (suc i) k _ h n filled-words; words = filled-words; round-key = key; constant = f ∙ ap xtime (e .constant) })
+
+loop-again : tie.Need-loop-again Inv-loop μ-loop
 loop-again c =
     let at-loop = c .before .before .before .before .before .before .before .before .before in
-    let i = at-loop .loop .round in
-    let k = octets (at-loop .before .load .result) in
-    let n = octets-length (at-loop .before .load .result) in
-    let next : octets (c .before .before .before .before .before .before .next-key .result) ≡ roundKey (suc i) (keyExpansion k) = cc (next-round-key i k (omega arith) n) in
-    let words : c .before .before .write2 .last .0 ≡ expand (4 * suc i) k ++ replicate (160 - 16 * suc i) 0 =
-    c .before .before .write2 .ensures .slice
-    ∙ rw (c .before .before .before .before .before .store .ensures) (round-written i k _ _ (omega arith) n next (octets-length _) (at-loop .loop .inv .words)) in
-    rw add-one
-    (record { bound = omega arith; size = filled (suc i) k _ (omega arith) n words; words = words; round-key = next; constant = cc })
+    expanded-more (at-loop .loop .inv) (c .before .before .before .before .before .before .before .before .loop-test .taken)
+    (c .before .before .before .before .before .before .next-key .ensures)
+    (c .before .before .before .before .before .store .ensures)
+    (c .before .before .write2 .ensures .slice)
+    (c .double .ensures)
 
 returns : tie.Need-returns Inv-loop μ-loop
 unfolding keyExpansion
