@@ -26,7 +26,9 @@ returns : tie.Need-returns
 unfolding wordOf
 returns c =
     let a = c .before .before .before .args in
-    cc (low-half (drop (a .at) (now (a .s))), high-half (a .at) (now (a .s)))
+    let low = c .before .read-u64 .ensures ∙ low-half (drop (a .at) (now (a .s))) in
+    let high = c .read-u642 .ensures ∙ high-half (a .at) (now (a .s)) in
+    λ i. record { low = low i; high = high i }
 
 pub read-word-spec : {M : Type 1} → statement M
 read-word-spec =

