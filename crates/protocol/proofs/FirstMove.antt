@@ -24,14 +24,14 @@ head-canonical s = new-canonical _
 
 -- the head takes the request, lists 0x30 and wants its answer
 pub first-move :
-    (w : Shared) (s : Start) →
-    (L : Link) × Move w (freshLink s) true L
+    (shared : Shared) (s : Start) →
+    (L : Link) × Move shared (freshLink s) true L
     × (L .head .calls ≡ call.Ask question.FindBond ∷ [])
     × (L .head .openStep ≡ some (record { given = aPacket (requestOf s); answers = [] }))
     × (L .head .machine ≡ freshHead s) × (L .head .queue ≡ [])
 unfolding freshLink freshHead newMachine stepAt callsAt step playOf «handle_input» transition «handle_pairing_request»
     bodyAt flagAt
-first-move w s = (
+first-move shared s = (
   _,
   takePacket Peripheral (requestOf s) [] [] refl refl refl (record { octets = tt; fair = tt }),
   refl,

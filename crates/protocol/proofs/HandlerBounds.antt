@@ -145,8 +145,8 @@ other-input-keeps r m payload (input.Event (event.PassKeyInput n)) = λ h. h
 other-input-keeps r m payload (input.Event (event.OobDataReceived w)) = tt
 
 -- the bounds of a transition
-abbrev pub Moves : Role → Machine → Handler Machine → Type 0
-Moves r m p = Keeps (Stays r m) 9 58 p
+abbrev pub TransitionKeeps : Role → Machine → Handler Machine → Type 0
+TransitionKeeps r m p = Keeps (Stays r m) 9 58 p
 
 -- what holds of both ways on an input holds of the choice between them
 module _ {A : Type 0} (P : A → Type 0) where

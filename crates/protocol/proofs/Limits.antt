@@ -36,7 +36,7 @@ use Rattle.protocol.specs.LegacyCentral as central
 use Rattle.protocol.specs.LegacyPeripheral as peripheral
 use Rattle.protocol.specs.Step.{handleInput, playOf, callsOctets, longest, refusedBy, stepped, isKnown, step}
 use Rattle.protocol.proofs.Bounds.{within-more, Within, Broken, FailsOnce, within-fails, OfEnding, PlaysWithin, plays-within}
-use Rattle.protocol.proofs.HandlerBounds.{Moves, Stays, entered-within}
+use Rattle.protocol.proofs.HandlerBounds.{TransitionKeeps, Stays, entered-within}
 use Rattle.protocol.proofs.CentralBounds as central-bounds
 use Rattle.protocol.proofs.PeripheralBounds as peripheral-bounds
 
@@ -44,7 +44,7 @@ use Rattle.protocol.proofs.PeripheralBounds as peripheral-bounds
 
 -- a transition and the state that it enters
 most-within :
-    (r : Role) (m : Machine) (p : Handler Machine) → Moves r m p →
+    (r : Role) (m : Machine) (p : Handler Machine) → TransitionKeeps r m p →
     Within Broken (Stays r m) mostCalls longest (bind p entered)
 most-within r m p w =
     within-more Broken (Stays r m) (Stays r m) (bind p entered) 11 164 mostCalls longest (λ m₁ h. h) (lit≤ tt) (lit≤ tt)
@@ -163,15 +163,15 @@ Reaches x = (length (x .calls) ≡ mostCalls) × (length (callsOctets (x .calls)
 -- by the peripheral where it names both keys as the responder's, and the central none
 pub peripheral-reached : Reaches (longestPlay Peripheral (encrypting (bonding 0 3) (bonding 0 0)))
 unfolding peripheral.«handle_input» peripheral.transition peripheral.«handle_link_encrypted_success»
-    peripheral.keysOrIdentity peripheral.«send_all_keys» peripheral.receiveKeys peripheral.identityOrSuccess
+    peripheral.sendKeysOrAwaitIdentity peripheral.«send_all_keys» peripheral.awaitKeys peripheral.awaitIdentityOrSucceed
     sendEncryptionKey sendIdentityKey enter wantBonding withKeys newData playOf bodyAt verdictAt ltkAt edivAt randAt
     irkAt addressAt callsOctets allOctets callOctets octetsOf bdAddrOctets addressOctets bondOctets
 peripheral-reached = (refl, refl)
 
 -- by the central where the peripheral names both keys as the initiator's, and none of its own
 pub central-reached : Reaches (longestPlay Central (encrypting (bonding 3 0) (bonding 3 0)))
-unfolding central.«handle_input» central.transition central.«handle_link_encrypted_success» central.receiveKeys
-    central.identityOrKeys central.«send_all_keys» sendEncryptionKey sendIdentityKey enter wantBonding newData playOf
+unfolding central.«handle_input» central.transition central.«handle_link_encrypted_success» central.awaitKeys
+    central.awaitIdentityOrSend central.«send_all_keys» sendEncryptionKey sendIdentityKey enter wantBonding newData playOf
     bodyAt verdictAt ltkAt edivAt randAt irkAt addressAt callsOctets allOctets callOctets octetsOf bdAddrOctets
     addressOctets bondOctets
 central-reached = (refl, refl)

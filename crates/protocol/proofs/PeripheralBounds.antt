@@ -24,22 +24,22 @@ use Rattle.machine.specs.declared.Phase.{Phase}
 use Rattle.machine.specs.declared.Phase.the-variants as phase
 use Rattle.machine.specs.declared.Role.the-variants.{Peripheral}
 use Rattle.protocol.specs.Handlers.{wordIn, featuresIn, identificationIn, addressIn, namesIdentityKey, withBond, «store_confirm_bytes», sendEncryptionKey, sendIdentityKey, «handle_encryption_information», «handle_identity_information»}
-use Rattle.protocol.specs.LegacyPeripheral.{identityOrSuccess, receiveKeys, «send_all_keys», keysOrIdentity, «handle_link_encrypted_success», «send_sconfirm», answerConfirm, «handle_peer_confirm», «handle_pass_key_input», bondLost, identityOffered, beginMethod, «handle_pairing_request», confirmValue, onMrand, «handle_pairing_random», «handle_central_identification», «handle_identity_address_information», linkEncrypted, transitionFrom, transition}
+use Rattle.protocol.specs.LegacyPeripheral.{awaitIdentityOrSucceed, awaitKeys, «send_all_keys», sendKeysOrAwaitIdentity, «handle_link_encrypted_success», «send_sconfirm», answerConfirm, «handle_peer_confirm», «handle_pass_key_input», bondLost, identityOffered, beginMethod, «handle_pairing_request», confirmValue, onMrand, «handle_pairing_random», «handle_central_identification», «handle_identity_address_information», linkEncrypted, transitionFrom, transition}
 use Rattle.protocol.proofs.Bounds.{Keeps, Anything, keeps-then, or-fail-then, delivered-then, option-bond-then}
-use Rattle.protocol.proofs.HandlerBounds.{store-confirm-bytes-keeps, send-encryption-key-keeps, send-identity-key-keeps, enable-encryption-keeps, encryption-information-keeps, identity-information-keeps, Moves, moves-by, other-input-keeps, on-command, on-link-encrypted, on-pass-key-input, on-pass-key-cancel, on-oob-data, on-receiving-keys}
+use Rattle.protocol.proofs.HandlerBounds.{store-confirm-bytes-keeps, send-encryption-key-keeps, send-identity-key-keeps, enable-encryption-keeps, encryption-information-keeps, identity-information-keeps, TransitionKeeps, moves-by, other-input-keeps, on-command, on-link-encrypted, on-pass-key-input, on-pass-key-cancel, on-oob-data, on-receiving-keys}
 
 -- a state that a handler of this role enters
 abbrev Enters : Machine → Type 0
 Enters m = Canonical Peripheral m
 
 -- no call, so any bounds
-identity-or-success-keeps : (n o : ℕ) (d : PairingData) (b : Bool) → Keeps Enters n o (identityOrSuccess d b)
-unfolding identityOrSuccess
+identity-or-success-keeps : (n o : ℕ) (d : PairingData) (b : Bool) → Keeps Enters n o (awaitIdentityOrSucceed d b)
+unfolding awaitIdentityOrSucceed
 identity-or-success-keeps n o d true = record { ofRole = tt; kept = refl }
 identity-or-success-keeps n o d false = record { ofRole = tt; kept = refl }
 
-receive-keys-keeps : (n o : ℕ) (d : PairingData) (b : Bool) → Keeps Enters n o (receiveKeys d b)
-unfolding receiveKeys
+receive-keys-keeps : (n o : ℕ) (d : PairingData) (b : Bool) → Keeps Enters n o (awaitKeys d b)
+unfolding awaitKeys
 receive-keys-keeps n o d true = record { ofRole = tt; kept = refl }
 receive-keys-keeps n o d false = identity-or-success-keeps n o d _
 
@@ -51,14 +51,14 @@ send-all-keys-keeps d =
     (λ d₁ u. keeps-then (sendIdentityKey d₁ _) _ Anything _ 4 27 4 27 (lit≤ tt) (lit≤ tt) (send-identity-key-keeps d₁ _)
     (λ v w. receive-keys-keeps 0 0 d₁ _))
 
-keys-or-identity-keeps : (d : PairingData) (b : Bool) → Keeps Enters 9 58 (keysOrIdentity d b)
-unfolding keysOrIdentity
+keys-or-identity-keeps : (d : PairingData) (b : Bool) → Keeps Enters 9 58 (sendKeysOrAwaitIdentity d b)
+unfolding sendKeysOrAwaitIdentity
 keys-or-identity-keeps d true = send-all-keys-keeps d
 keys-or-identity-keeps d false = identity-or-success-keeps 9 58 d _
 
 link-encrypted-success-keeps :
     (d : PairingData) (requested : Bool) → Keeps Enters 9 58 («handle_link_encrypted_success» d requested)
-unfolding «handle_link_encrypted_success» keysOrIdentity callOctets
+unfolding «handle_link_encrypted_success» sendKeysOrAwaitIdentity callOctets
 link-encrypted-success-keeps d true =
     (lit≤ tt, lit≤ tt, tt, option-bond-then _ _ _ _ d (λ b. identity-or-success-keeps 8 57 (withBond b d) _))
 link-encrypted-success-keeps d false = keys-or-identity-keeps d (wantBonding d)
@@ -177,62 +177,62 @@ link-encrypted-keeps d requested false = tt
 
 -- a row for each state, as in `transitionFrom`
 transition-from-keeps :
-    (m : Machine) (payload : List ℕ) (i : Input) (p : Phase) → Moves Peripheral m (transitionFrom m payload i p)
+    (m : Machine) (payload : List ℕ) (i : Input) (p : Phase) → TransitionKeeps Peripheral m (transitionFrom m payload i p)
 transition-from-keeps m payload i phase.WaitingPairingRequest =
     let d = m .«pairing_data» in
-    on-command (Moves Peripheral m) command.PairingRequest i _ _
+    on-command (TransitionKeeps Peripheral m) command.PairingRequest i _ _
     (moves-by Peripheral m («handle_pairing_request» d payload) 8 18 (lit≤ tt) (lit≤ tt)
     (pairing-request-keeps d payload))
-    (on-link-encrypted (Moves Peripheral m) i _ _
+    (on-link-encrypted (TransitionKeeps Peripheral m) i _ _
     (λ b. moves-by Peripheral m (linkEncrypted d true b) 9 58 (lit≤ tt) (lit≤ tt) (link-encrypted-keeps d true b))
     (other-input-keeps Peripheral m payload i))
 transition-from-keeps m payload i (phase.WaitingPassKeyInput early) =
     let c = m .«confirm_data» in
     let d = m .«pairing_data» in
-    on-command (Moves Peripheral m) command.PairingConfirm i _ _
+    on-command (TransitionKeeps Peripheral m) command.PairingConfirm i _ _
     (moves-by Peripheral m («store_confirm_bytes» c d payload) 0 0 (lit≤ tt) (lit≤ tt)
     (store-confirm-bytes-keeps Peripheral 0 0 c d payload))
-    (on-pass-key-input (Moves Peripheral m) i _ _
+    (on-pass-key-input (TransitionKeeps Peripheral m) i _ _
     (λ n. moves-by Peripheral m («handle_pass_key_input» c d n early) 2 18 (lit≤ tt) (lit≤ tt)
     (pass-key-input-keeps c d n early))
-    (on-pass-key-cancel (Moves Peripheral m) i _ _ tt (other-input-keeps Peripheral m payload i)))
+    (on-pass-key-cancel (TransitionKeeps Peripheral m) i _ _ tt (other-input-keeps Peripheral m payload i)))
 transition-from-keeps m payload i phase.WaitingOobData =
-    on-oob-data (Moves Peripheral m) i _ _ (λ w h. record { ofRole = tt; kept = refl })
+    on-oob-data (TransitionKeeps Peripheral m) i _ _ (λ w h. record { ofRole = tt; kept = refl })
     (other-input-keeps Peripheral m payload i)
 transition-from-keeps m payload i phase.WaitingPairingConfirm =
     let c = m .«confirm_data» in
     let d = m .«pairing_data» in
-    on-command (Moves Peripheral m) command.PairingConfirm i _ _
+    on-command (TransitionKeeps Peripheral m) command.PairingConfirm i _ _
     (moves-by Peripheral m («handle_peer_confirm» c d payload) 2 18 (lit≤ tt) (lit≤ tt)
     (peer-confirm-keeps c d payload))
     (other-input-keeps Peripheral m payload i)
 transition-from-keeps m payload i (phase.WaitingPairingRandom confirm) =
     let c = m .«confirm_data» in
     let d = m .«pairing_data» in
-    on-command (Moves Peripheral m) command.PairingRandom i _ _
+    on-command (TransitionKeeps Peripheral m) command.PairingRandom i _ _
     (moves-by Peripheral m («handle_pairing_random» c d confirm payload) 2 36 (lit≤ tt) (lit≤ tt)
     (pairing-random-keeps c d confirm payload))
     (other-input-keeps Peripheral m payload i)
 transition-from-keeps m payload i phase.WaitingLinkEncrypted =
     let d = m .«pairing_data» in
-    on-link-encrypted (Moves Peripheral m) i _ _
+    on-link-encrypted (TransitionKeeps Peripheral m) i _ _
     (λ b. moves-by Peripheral m (linkEncrypted d false b) 9 58 (lit≤ tt) (lit≤ tt) (link-encrypted-keeps d false b))
     (other-input-keeps Peripheral m payload i)
 transition-from-keeps m payload i phase.WaitingIdentitityInformation =
     let d = m .«pairing_data» in
-    on-command (Moves Peripheral m) command.IdentityInformation i _ _
+    on-command (TransitionKeeps Peripheral m) command.IdentityInformation i _ _
     (moves-by Peripheral m («handle_identity_information» d payload) 0 0 (lit≤ tt) (lit≤ tt)
     (identity-information-keeps Peripheral 0 0 d payload))
     (other-input-keeps Peripheral m payload i)
 transition-from-keeps m payload i phase.WaitingIdentitityAddressInformation =
     let d = m .«pairing_data» in
-    on-command (Moves Peripheral m) command.IdentityAddressInformation i _ _
+    on-command (TransitionKeeps Peripheral m) command.IdentityAddressInformation i _ _
     (moves-by Peripheral m («handle_identity_address_information» d payload) 0 0 (lit≤ tt) (lit≤ tt)
     (identity-address-keeps 0 0 d payload))
     (other-input-keeps Peripheral m payload i)
 transition-from-keeps m payload i (phase.ReceivingKeys n ltk) =
     let d = m .«pairing_data» in
-    on-receiving-keys (Moves Peripheral m) n i _ _ _
+    on-receiving-keys (TransitionKeeps Peripheral m) n i _ _ _
     (moves-by Peripheral m («handle_encryption_information» d payload) 0 0 (lit≤ tt) (lit≤ tt)
     (encryption-information-keeps Peripheral 0 0 d payload))
     (moves-by Peripheral m («handle_central_identification» d payload) 0 0 (lit≤ tt) (lit≤ tt)
@@ -242,6 +242,6 @@ transition-from-keeps m payload i phase.Success = other-input-keeps Peripheral m
 transition-from-keeps m payload i (phase.Error e) = other-input-keeps Peripheral m payload i
 transition-from-keeps m payload i phase.WaitingPairingResponse = other-input-keeps Peripheral m payload i
 
-pub transition-keeps : (m : Machine) (i : Input) (payload : List ℕ) → Moves Peripheral m (transition m i payload)
+pub transition-keeps : (m : Machine) (i : Input) (payload : List ℕ) → TransitionKeeps Peripheral m (transition m i payload)
 unfolding transition
 transition-keeps m i payload = transition-from-keeps m payload i (m .phase)

@@ -114,7 +114,7 @@ shows method.OutOfBand = false
 
 -- the passkey typed at an end, by the method that its machine holds
 abbrev pub passKeyTyped : Shared → Machine → ℕ
-passKeyTyped w m = cond (shows (m .«pairing_data» .«pairing_method»)) (w .shown) (w .typed)
+passKeyTyped shared m = cond (shows (m .«pairing_data» .«pairing_method»)) (shared .shown) (shared .typed)
 
 -- all verdicts are 0, and a passkey that is drawn is the one shown; all other answers are free
 abbrev pub addressGiven : AddressResult → Type 0
@@ -129,33 +129,33 @@ abbrev pub optionBondGiven : OptionBondResult → Type 0
 optionBondGiven (option-result.Ok b) = Unit {0}
 optionBondGiven (option-result.Err e) = ⊥
 
-abbrev pub FairReply : Shared → (κ : Sort) → Holds κ → Type 0
-FairReply w aVerdict x = x ≡ delivered
-FairReply w aFlag x = Unit {0}
-FairReply w anIrk x = Unit {0}
-FairReply w anAddress x = addressGiven x
-FairReply w aNonce x = Unit {0}
-FairReply w aPassKey x = x .0 ≡ w .shown
-FairReply w anLtk x = Unit {0}
-FairReply w anEdiv x = Unit {0}
-FairReply w aRand x = Unit {0}
-FairReply w aBond x = bondGiven x
-FairReply w anOptionBond x = optionBondGiven x
+abbrev pub FairReply : Shared → (sort : Sort) → Holds sort → Type 0
+FairReply shared aVerdict x = x ≡ delivered
+FairReply shared aFlag x = Unit {0}
+FairReply shared anIrk x = Unit {0}
+FairReply shared anAddress x = addressGiven x
+FairReply shared aNonce x = Unit {0}
+FairReply shared aPassKey x = x .0 ≡ shared .shown
+FairReply shared anLtk x = Unit {0}
+FairReply shared anEdiv x = Unit {0}
+FairReply shared aRand x = Unit {0}
+FairReply shared aBond x = bondGiven x
+FairReply shared anOptionBond x = optionBondGiven x
 
 -- no host answer meets the condition of refusal 3
-abbrev pub FairTaken : Shared → (κ : Sort) → (Holds κ → ℕ → Type 0) → Taken (Holds κ) → Type 0
-FairTaken w κ next (got x n) = FairReply w κ x × next x n
-FairTaken w κ next wants = Unit {0}
-FairTaken w κ next refused = ⊥
+abbrev pub FairTaken : Shared → (sort : Sort) → (Holds sort → ℕ → Type 0) → Taken (Holds sort) → Type 0
+FairTaken shared sort next (got x n) = FairReply shared sort x × next x n
+FairTaken shared sort next wants = Unit {0}
+FairTaken shared sort next refused = ⊥
 
 -- the answers to a step, each that is reached
 abbrev pub FairAnswers : Shared → Program Machine → List ℕ → ℕ → Type 0
-FairAnswers w (ret m) s at = Unit {0}
-FairAnswers w (ask c k) s at = FairTaken w (replySort c) (λ x n. FairAnswers w (k x) s n) (replyAt c s at)
+FairAnswers shared (ret m) s at = Unit {0}
+FairAnswers shared (ask c k) s at = FairTaken shared (replySort c) (λ x n. FairAnswers shared (k x) s n) (replyAt c s at)
 
 -- ---- The link
 
-pub record Packet : Type 0 where
+pub record QueuedPacket : Type 0 where
   pub code : ℕ
   pub payload : List ℕ
 
@@ -165,14 +165,14 @@ pub data Due : Type 0 where
 
 -- what an end gets as an input: a packet or an event; no other input occurs
 pub data Given : Type 0 where
-  aPacket : Packet → Given
+  aPacket : QueuedPacket → Given
   anEvent : Due → Given
 
 abbrev pub inputOf : Shared → Machine → Given → Input
-inputOf w m (aPacket p) = input.Command (p .code)
-inputOf w m (anEvent passKey) = input.Event (event.PassKeyInput (passKeyTyped w m))
-inputOf w m (anEvent oobData) = input.Event (event.OobDataReceived (w .oob))
-inputOf w m (anEvent encryptionOn) = input.Event (event.LinkEncryptedResult true)
+inputOf shared m (aPacket p) = input.Command (p .code)
+inputOf shared m (anEvent passKey) = input.Event (event.PassKeyInput (passKeyTyped shared m))
+inputOf shared m (anEvent oobData) = input.Event (event.OobDataReceived (shared .oob))
+inputOf shared m (anEvent encryptionOn) = input.Event (event.LinkEncryptedResult true)
 
 abbrev pub payloadOf : Given → List ℕ
 payloadOf (aPacket p) = p .payload
@@ -187,7 +187,7 @@ pub record OpenStep : Type 0 where
 -- calls that it has listed so far, and whether it has had its OOB data
 pub record End : Type 0 where
   pub machine : Machine
-  pub queue : List Packet
+  pub queue : List QueuedPacket
   pub due : List Due
   pub openStep : Option OpenStep
   pub calls : List Call
@@ -210,10 +210,10 @@ abbrev pub linkOf : Role → End → End → Link
 linkOf Central this that = record { terminal = this; head = that }
 linkOf Peripheral this that = record { terminal = that; head = this }
 
-abbrev pub freshEnd : Machine → List Packet → End
+abbrev pub freshEnd : Machine → List QueuedPacket → End
 freshEnd m queue = record { machine = m; queue = queue; due = []; openStep = none; calls = []; hadOob = false }
 
-abbrev pub requestOf : Start → Packet
+abbrev pub requestOf : Start → QueuedPacket
 requestOf s = record { code = commandCode command.PairingRequest; payload = featureOctets (s .request) }
 
 -- at the start only the request is queued, to the head
@@ -223,7 +223,7 @@ freshLink s = record { terminal = freshEnd (freshTerminal s) []; head = freshEnd
 -- ---- What a call does, when it is first listed
 
 -- a packet joins the other end's queue
-abbrev pub sentBy : Call → List Packet
+abbrev pub sentBy : Call → List QueuedPacket
 sentBy (call.SendPacket p) = record { code = commandCode (packetCommand p); payload = packetBody p } ∷ []
 sentBy (call.SendConnectionEvent e) = []
 sentBy (call.Ask q) = []
@@ -232,7 +232,7 @@ sentBy (call.EnableEncryption k l n) = []
 sentBy call.EnableBondedEncryption = []
 sentBy (call.UpdateBondInformation b) = []
 
-abbrev pub sentByAll : List Call → List Packet
+abbrev pub sentByAll : List Call → List QueuedPacket
 sentByAll [] = []
 sentByAll (c ∷ cs) = sentBy c ++ sentByAll cs
 
@@ -263,16 +263,16 @@ abbrev pub machineAt : Role → Link → Machine
 machineAt r L = endOf r L .machine
 
 unfoldable pub stepAt : Shared → Role → Link → Given → List ℕ → Step
-stepAt w r L g answers =
-    step r (machineAt r L) (inputOf w (machineAt r L) g) (payloadOf g) answers (replicate longest 0)
+stepAt shared r L g answers =
+    step r (machineAt r L) (inputOf shared (machineAt r L) g) (payloadOf g) answers (replicate longest 0)
 
 unfoldable pub callsAt : Shared → Role → Link → Given → List ℕ → List Call
-callsAt w r L g answers = playOf r (machineAt r L) (inputOf w (machineAt r L) g) (payloadOf g) answers .calls
+callsAt shared r L g answers = playOf r (machineAt r L) (inputOf shared (machineAt r L) g) (payloadOf g) answers .calls
 
 -- any host answers or none, so long as those that the step reaches are fair; what is left over is free
-pub record FairHost (w : Shared) (r : Role) (L : Link) (g : Given) (answers : List ℕ) : Type 0 where
+pub record FairHost (shared : Shared) (r : Role) (L : Link) (g : Given) (answers : List ℕ) : Type 0 where
   pub octets : AreOctets answers
-  pub fair : FairAnswers w (handleInput r (machineAt r L) (inputOf w (machineAt r L) g) (payloadOf g)) answers 0
+  pub fair : FairAnswers shared (handleInput r (machineAt r L) (inputOf shared (machineAt r L) g) (payloadOf g)) answers 0
 
 -- a step that wants is open, with its input and answers
 abbrev pub openAfter : Outcome → Given → List ℕ → Option OpenStep
@@ -288,13 +288,13 @@ hadOobAfter (anEvent encryptionOn) had = had
 
 -- an end after its step, with the packets and events that are left, and the calls that are new. The machine is the one
 -- that the step gives back: where it ends, the one for that end's next input; where it wants, the one that it had
-abbrev pub endAfter : Shared → Role → Link → Given → List ℕ → List Packet → List Due → List Call → End
-endAfter w r L g answers queue due new =
+abbrev pub endAfter : Shared → Role → Link → Given → List ℕ → List QueuedPacket → List Due → List Call → End
+endAfter shared r L g answers queue due new =
     record {
-      machine = stepAt w r L g answers .stepped .machine;
+      machine = stepAt shared r L g answers .stepped .machine;
       queue = queue;
       due = due ++ madeDueByAll (endOf r L .calls) new;
-      openStep = openAfter (stepAt w r L g answers .stepped .outcome) g answers;
+      openStep = openAfter (stepAt shared r L g answers .stepped .outcome) g answers;
       calls = endOf r L .calls ++ new;
       hadOob = hadOobAfter g (endOf r L .hadOob);
     }
@@ -311,9 +311,9 @@ receives new e =
       hadOob = e .hadOob;
     }
 
-abbrev pub linkAfter : Shared → Role → Link → Given → List ℕ → List Packet → List Due → List Call → Link
-linkAfter w r L g answers queue due new =
-    linkOf r (endAfter w r L g answers queue due new) (receives new (endOf (other r) L))
+abbrev pub linkAfter : Shared → Role → Link → Given → List ℕ → List QueuedPacket → List Due → List Call → Link
+linkAfter shared r L g answers queue due new =
+    linkOf r (endAfter shared r L g answers queue due new) (receives new (endOf (other r) L))
 
 -- ---- A move
 
@@ -336,36 +336,36 @@ MayTake L Peripheral e = Unit {0}
 
 -- a move of either end, of two kinds, from a link to the next; true where it is an input, the first kind. All that is
 -- asked of a move stands in its case: otherwise any is allowed at any time
-pub data Move (w : Shared) (L : Link) : Bool → Link → Type 0 where
+pub data Move (shared : Shared) (L : Link) : Bool → Link → Type 0 where
   -- an end with no open step gets its oldest queued packet, which leaves the queue
   takePacket :
-      (r : Role) (p : Packet) (queue : List Packet) (answers : List ℕ) →
+      (r : Role) (p : QueuedPacket) (queue : List QueuedPacket) (answers : List ℕ) →
       endOf r L .openStep ≡ none → endOf r L .queue ≡ p ∷ queue → reportDue (endOf r L .due) ≡ false →
-      FairHost w r L (aPacket p) answers →
-      Move w L true
-      (linkAfter w r L (aPacket p) answers queue (endOf r L .due) (callsAt w r L (aPacket p) answers))
+      FairHost shared r L (aPacket p) answers →
+      Move shared L true
+      (linkAfter shared r L (aPacket p) answers queue (endOf r L .due) (callsAt shared r L (aPacket p) answers))
   -- .. or an event due there, which is due no more
   takeEvent :
       (r : Role) (e : Due) (earlier later : List Due) (answers : List ℕ) →
       endOf r L .openStep ≡ none → endOf r L .due ≡ earlier ++ (e ∷ later) → MayTake L r e →
-      FairHost w r L (anEvent e) answers →
-      Move w L true
-      (linkAfter w r L (anEvent e) answers (endOf r L .queue) (earlier ++ later) (callsAt w r L (anEvent e) answers))
+      FairHost shared r L (anEvent e) answers →
+      Move shared L true
+      (linkAfter shared r L (anEvent e) answers (endOf r L .queue) (earlier ++ later) (callsAt shared r L (anEvent e) answers))
   -- an open step is run again on the machine and input it had, its host answers kept and at least one added; a call
   -- counts once, when first listed
   runAgain :
       (r : Role) (g : Given) (kept : List ℕ) (x : ℕ) (added : List ℕ) →
       endOf r L .openStep ≡ some (record { given = g; answers = kept }) →
-      FairHost w r L g (kept ++ (x ∷ added)) →
-      Move w L false
-      (linkAfter w r L g (kept ++ (x ∷ added)) (endOf r L .queue) (endOf r L .due)
-      (drop (length (callsAt w r L g kept)) (callsAt w r L g (kept ++ (x ∷ added)))))
+      FairHost shared r L g (kept ++ (x ∷ added)) →
+      Move shared L false
+      (linkAfter shared r L g (kept ++ (x ∷ added)) (endOf r L .queue) (endOf r L .due)
+      (drop (length (callsAt shared r L g kept)) (callsAt shared r L g (kept ++ (x ∷ added)))))
 
 -- the outcome of its step
-abbrev pub outcomeOf : {w : Shared} {L L₁ : Link} {i : Bool} → Move w L i L₁ → Outcome
-outcomeOf {w} {L} (takePacket r p queue answers o q d f) = stepAt w r L (aPacket p) answers .stepped .outcome
-outcomeOf {w} {L} (takeEvent r e earlier later answers o q d f) = stepAt w r L (anEvent e) answers .stepped .outcome
-outcomeOf {w} {L} (runAgain r g kept x added o f) = stepAt w r L g (kept ++ (x ∷ added)) .stepped .outcome
+abbrev pub outcomeOf : {shared : Shared} {L L₁ : Link} {i : Bool} → Move shared L i L₁ → Outcome
+outcomeOf {shared} {L} (takePacket r p queue answers o q d f) = stepAt shared r L (aPacket p) answers .stepped .outcome
+outcomeOf {shared} {L} (takeEvent r e earlier later answers o q d f) = stepAt shared r L (anEvent e) answers .stepped .outcome
+outcomeOf {shared} {L} (runAgain r g kept x added o f) = stepAt shared r L g (kept ++ (x ∷ added)) .stepped .outcome
 
 -- ---- Lists of moves, and runs
 
@@ -374,16 +374,16 @@ countInput true n = suc n
 countInput false n = n
 
 -- a list of allowed moves: how many they are, and how many of them are inputs
-pub data Moves (w : Shared) : Link → ℕ → ℕ → Link → Type 0 where
-  noMove : {L : Link} → Moves w L zero zero L
+pub data Moves (shared : Shared) : Link → ℕ → ℕ → Link → Type 0 where
+  noMove : {L : Link} → Moves shared L zero zero L
   move :
       {L L₁ L₂ : Link} {i : Bool} {moves inputs : ℕ} →
-      Move w L i L₁ → Moves w L₁ moves inputs L₂ → Moves w L (suc moves) (countInput i inputs) L₂
+      Move shared L i L₁ → Moves shared L₁ moves inputs L₂ → Moves shared L (suc moves) (countInput i inputs) L₂
 
 -- a run is a list of allowed moves after which none is allowed
-pub record Run (w : Shared) (L : Link) (moves inputs : ℕ) (L₁ : Link) : Type 0 where
-  pub all : Moves w L moves inputs L₁
-  pub over : (i : Bool) (L₂ : Link) → Move w L₁ i L₂ → ⊥
+pub record Run (shared : Shared) (L : Link) (moves inputs : ℕ) (L₁ : Link) : Type 0 where
+  pub all : Moves shared L moves inputs L₁
+  pub over : (i : Bool) (L₂ : Link) → Move shared L₁ i L₂ → ⊥
 
 -- nothing is queued, due or open
 pub record Idle (e : End) : Type 0 where

@@ -179,23 +179,23 @@ NotRefused outcome.Wants = Unit {0}
 NotRefused (outcome.Refused n) = ⊥
 
 -- every run from a start ends. (A run itself is a list of allowed moves after which none is allowed: FairLink.)
-pub record RunsEnd (w : Shared) (s : Start) : Type 0 where
+pub record RunsEnd (shared : Shared) (s : Start) : Type 0 where
   -- some number bounds the moves, re-runs included, of every list of allowed moves
   pub bound : ℕ
-  pub bounded : (moves inputs : ℕ) (L : Link) → Moves w (freshLink s) moves inputs L → moves ≤ bound
+  pub bounded : (moves inputs : ℕ) (L : Link) → Moves shared (freshLink s) moves inputs L → moves ≤ bound
   -- every list of allowed moves is the beginning of a run
   pub begins :
-      (moves inputs : ℕ) (L : Link) → Moves w (freshLink s) moves inputs L →
-      (more moreInputs : ℕ) × (L₁ : Link) × Run w L more moreInputs L₁
+      (moves inputs : ℕ) (L : Link) → Moves shared (freshLink s) moves inputs L →
+      (more moreInputs : ℕ) × (L₁ : Link) × Run shared L more moreInputs L₁
   -- no step on the way is refused
   pub accepted :
-      (moves inputs : ℕ) (L : Link) → Moves w (freshLink s) moves inputs L →
-      (i : Bool) (L₁ : Link) (x : Move w L i L₁) → NotRefused (outcomeOf x)
+      (moves inputs : ℕ) (L : Link) → Moves shared (freshLink s) moves inputs L →
+      (i : Bool) (L₁ : Link) (x : Move shared L i L₁) → NotRefused (outcomeOf x)
   -- inputs, the moves of the first kind, are at most 18 in any list of moves
-  pub fewInputs : (moves inputs : ℕ) (L : Link) → Moves w (freshLink s) moves inputs L → inputs ≤ 18
+  pub fewInputs : (moves inputs : ℕ) (L : Link) → Moves shared (freshLink s) moves inputs L → inputs ≤ 18
   -- what every run comes to
-  pub comesTo : (moves inputs : ℕ) (L : Link) → Run w (freshLink s) moves inputs L → RunEnds (s .request) inputs L
+  pub comesTo : (moves inputs : ℕ) (L : Link) → Run shared (freshLink s) moves inputs L → RunEnds (s .request) inputs L
 
 -- demand 3: all starts, all orders of moves, all host answers, all passkeys and OOB data
 abbrev pub EveryFairRunEnds : Type 0
-EveryFairRunEnds = (w : Shared) (s : Start) → FairStart s → RunsEnd w s
+EveryFairRunEnds = (shared : Shared) (s : Start) → FairStart s → RunsEnd shared s

@@ -59,21 +59,21 @@ unfoldable pub «send_all_keys» : PairingData → Handler Machine
   give (enters phase.Success noConfirmData d₁)
 
 -- the peripheral's identity key is awaited where the response names it; then the central sends its keys
-unfoldable pub identityOrKeys : PairingData → Bool → Handler Machine
-identityOrKeys d true = give (enters phase.WaitingIdentitityInformation noConfirmData d)
-identityOrKeys d false = «send_all_keys» d
+unfoldable pub awaitIdentityOrSend : PairingData → Bool → Handler Machine
+awaitIdentityOrSend d true = give (enters phase.WaitingIdentitityInformation noConfirmData d)
+awaitIdentityOrSend d false = «send_all_keys» d
 
 -- .. and before it the encryption key
-unfoldable pub receiveKeys : PairingData → Bool → Handler Machine
-receiveKeys d true = give (enters (phase.ReceivingKeys 0 (record { 0 = zeroWord })) noConfirmData d)
-receiveKeys d false = identityOrKeys d (namesIdentityKey (d .«peer_features» .«responder_key_distribution»))
+unfoldable pub awaitKeys : PairingData → Bool → Handler Machine
+awaitKeys d true = give (enters (phase.ReceivingKeys 0 (record { 0 = zeroWord })) noConfirmData d)
+awaitKeys d false = awaitIdentityOrSend d (namesIdentityKey (d .«peer_features» .«responder_key_distribution»))
 
-abbrev pub keysOrSuccess : PairingData → Bool → Handler Machine
-keysOrSuccess d true = receiveKeys d (namesEncryptionKey (d .«peer_features» .«responder_key_distribution»))
-keysOrSuccess d false = give (enters phase.Success noConfirmData d)
+abbrev pub awaitKeysOrSucceed : PairingData → Bool → Handler Machine
+awaitKeysOrSucceed d true = awaitKeys d (namesEncryptionKey (d .«peer_features» .«responder_key_distribution»))
+awaitKeysOrSucceed d false = give (enters phase.Success noConfirmData d)
 
 unfoldable pub «handle_link_encrypted_success» : PairingData → Handler Machine
-«handle_link_encrypted_success» d = keysOrSuccess d (wantBonding d)
+«handle_link_encrypted_success» d = awaitKeysOrSucceed d (wantBonding d)
 
 -- Mconfirm = c1 of a fresh Mrand goes out
 unfoldable pub «send_mconfirm» : ConfirmPhaseData → PairingData → Handler ConfirmPhaseData
@@ -150,17 +150,17 @@ unfoldable pub «handle_pairing_random» : ConfirmPhaseData → PairingData → 
 unfoldable pub «handle_central_identification» : PairingData → LongTermKey → List ℕ → Handler Machine
 «handle_central_identification» d ltk payload = do
   identification ← orFail d (Security reason.InvalidParameters) (identificationIn payload)
-  identityOrKeys (withKeys ltk (identification .0) (identification .1) d)
+  awaitIdentityOrSend (withKeys ltk (identification .0) (identification .1) d)
       (namesIdentityKey (d .«peer_features» .«responder_key_distribution»))
 
-abbrev pub sendKeysOrSuccess : PairingData → Bool → Handler Machine
-sendKeysOrSuccess d true = «send_all_keys» d
-sendKeysOrSuccess d false = give (enters phase.Success noConfirmData d)
+abbrev pub sendKeysOrSucceed : PairingData → Bool → Handler Machine
+sendKeysOrSucceed d true = «send_all_keys» d
+sendKeysOrSucceed d false = give (enters phase.Success noConfirmData d)
 
 unfoldable pub «handle_identity_address_information» : PairingData → List ℕ → Handler Machine
 «handle_identity_address_information» d payload = do
   address ← orFail d InvalidValue (addressIn payload)
-  sendKeysOrSuccess (withIdentityAddress address d) (wantBonding d)
+  sendKeysOrSucceed (withIdentityAddress address d) (wantBonding d)
 
 -- ---- FSM core
 

@@ -59,14 +59,14 @@ confirmValue c d r =
 -- ---- Transition helpers
 
 -- the central's identity key is awaited where the request names it
-unfoldable pub identityOrSuccess : PairingData → Bool → Handler Machine
-identityOrSuccess d true = give (enters phase.WaitingIdentitityInformation noConfirmData d)
-identityOrSuccess d false = give (enters phase.Success noConfirmData d)
+unfoldable pub awaitIdentityOrSucceed : PairingData → Bool → Handler Machine
+awaitIdentityOrSucceed d true = give (enters phase.WaitingIdentitityInformation noConfirmData d)
+awaitIdentityOrSucceed d false = give (enters phase.Success noConfirmData d)
 
 -- .. and before it the encryption key
-unfoldable pub receiveKeys : PairingData → Bool → Handler Machine
-receiveKeys d true = give (enters (phase.ReceivingKeys 0 (record { 0 = zeroWord })) noConfirmData d)
-receiveKeys d false = identityOrSuccess d (namesIdentityKey (d .«peer_features» .«initiator_key_distribution»))
+unfoldable pub awaitKeys : PairingData → Bool → Handler Machine
+awaitKeys d true = give (enters (phase.ReceivingKeys 0 (record { 0 = zeroWord })) noConfirmData d)
+awaitKeys d false = awaitIdentityOrSucceed d (namesIdentityKey (d .«peer_features» .«initiator_key_distribution»))
 
 -- its own keys are sent first; what it sends is kept in the bond
 unfoldable pub «send_all_keys» : PairingData → Handler Machine
@@ -74,18 +74,18 @@ unfoldable pub «send_all_keys» : PairingData → Handler Machine
   let named = d .«local_features» .«responder_key_distribution»
   d₁ ← sendEncryptionKey d (λ ltk ediv rand. withKeys ltk ediv rand d) (namesEncryptionKey named)
   sendIdentityKey d₁ (namesIdentityKey named)
-  receiveKeys d₁ (namesEncryptionKey (d .«peer_features» .«initiator_key_distribution»))
+  awaitKeys d₁ (namesEncryptionKey (d .«peer_features» .«initiator_key_distribution»))
 
-unfoldable pub keysOrIdentity : PairingData → Bool → Handler Machine
-keysOrIdentity d true = «send_all_keys» d
-keysOrIdentity d false = identityOrSuccess d (namesIdentityKey (d .«peer_features» .«initiator_key_distribution»))
+unfoldable pub sendKeysOrAwaitIdentity : PairingData → Bool → Handler Machine
+sendKeysOrAwaitIdentity d true = «send_all_keys» d
+sendKeysOrAwaitIdentity d false = awaitIdentityOrSucceed d (namesIdentityKey (d .«peer_features» .«initiator_key_distribution»))
 
--- `requested` where the previous state is WaitingPairingRequest: there an earlier bond encrypts the link
-unfoldable pub «handle_link_encrypted_success» : PairingData → (requested : Bool) → Handler Machine
+-- `beforeRequest` where the previous state is WaitingPairingRequest: there an earlier bond encrypts the link
+unfoldable pub «handle_link_encrypted_success» : PairingData → (beforeRequest : Bool) → Handler Machine
 «handle_link_encrypted_success» d true = do
   bond ← bondedEncryption d
-  keysOrIdentity (withBond bond d) false
-«handle_link_encrypted_success» d false = keysOrIdentity d (wantBonding d)
+  sendKeysOrAwaitIdentity (withBond bond d) false
+«handle_link_encrypted_success» d false = sendKeysOrAwaitIdentity d (wantBonding d)
 
 -- Sconfirm = c1 of a fresh Srand goes out
 unfoldable pub «send_sconfirm» : ConfirmPhaseData → PairingData → Handler ConfirmPhaseData
@@ -217,7 +217,7 @@ unfoldable pub «handle_pairing_random» : ConfirmPhaseData → PairingData → 
 unfoldable pub «handle_central_identification» : PairingData → List ℕ → Handler Machine
 «handle_central_identification» d payload = do
   identification ← orFail d (Security reason.InvalidParameters) (identificationIn payload)
-  identityOrSuccess d (namesIdentityKey (d .«peer_features» .«initiator_key_distribution»))
+  awaitIdentityOrSucceed d (namesIdentityKey (d .«peer_features» .«initiator_key_distribution»))
 
 unfoldable pub «handle_identity_address_information» : PairingData → List ℕ → Handler Machine
 «handle_identity_address_information» d payload = do
@@ -226,9 +226,9 @@ unfoldable pub «handle_identity_address_information» : PairingData → List �
 
 -- ---- FSM core
 
-abbrev pub linkEncrypted : PairingData → (requested : Bool) → Bool → Handler Machine
-linkEncrypted d requested true = «handle_link_encrypted_success» d requested
-linkEncrypted d requested false = fail d (Security reason.KeyRejected)
+abbrev pub linkEncrypted : PairingData → (beforeRequest : Bool) → Bool → Handler Machine
+linkEncrypted d beforeRequest true = «handle_link_encrypted_success» d beforeRequest
+linkEncrypted d beforeRequest false = fail d (Security reason.KeyRejected)
 
 -- a row for each state, in the order of the enum: what it awaits, then any other input
 abbrev pub transitionFrom : Machine → List ℕ → Input → Phase → Handler Machine

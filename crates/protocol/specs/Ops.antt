@@ -79,7 +79,7 @@ Reply c = Holds (replySort c)
 
 -- ---- the reply to a call, read at a place of the answers
 
-abbrev pub replyFound : (κ : Sort) → Call → List ℕ → ℕ → Found (Holds κ)
+abbrev pub replyFound : (sort : Sort) → Call → List ℕ → ℕ → Found (Holds sort)
 replyFound aVerdict c s at = onFound (verdictAt s at (kindOf c)) (λ v. found (deliveryOf v))
 replyFound aFlag c s at = flagAt s at (kindOf c)
 replyFound anIrk c s at = irkAt s at
