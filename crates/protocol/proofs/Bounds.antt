@@ -21,11 +21,13 @@ use Rattle.answer.specs.declared.BondResult.{BondResult}
 use Rattle.answer.specs.declared.BondResult.the-variants as bond-result
 use Rattle.answer.specs.declared.OptionBondResult.{OptionBondResult}
 use Rattle.answer.specs.declared.OptionBondResult.the-variants as option-result
+use Rattle.machine.specs.Machine.{noConfirmData}
 use Rattle.machine.specs.declared.Machine.{Machine}
+use Rattle.machine.specs.declared.Phase.the-variants as phase
 use Rattle.machine.specs.declared.PairingData.{PairingData}
 use Rattle.protocol.specs.Program.{ret, ask, bind, Taken, got, wants, refused, Ending, ended, wanting, refusing, Played, onTaken, listing, play}
 use Rattle.protocol.specs.Ops.{Delivery, delivered, undelivered, Reply, replyAt, Program}
-use Rattle.protocol.specs.Handlers.{Try, ok, err, Handler, onTry, orFail, onDelivery, onAddress, onBond, onOptionBond}
+use Rattle.protocol.specs.Handlers.{enters, Try, ok, err, Handler, onTry, orFail, onDelivery, onAddress, onBond, onOptionBond}
 use Rattle.protocol.specs.Step.{callsOctets}
 
 -- ---- bounds of a program
@@ -177,11 +179,14 @@ either-keeps P n o false p q h g = g
 
 -- ---- bounds of a step
 
--- an undelivered packet's error goes out in PairingFailed, and that is the step's last call
+-- an undelivered packet's error goes out in PairingFailed, which is the step's last call, and the machine stands in Error
+-- with the pairing data as they are by then
 abbrev pub Broken : OfCalls Machine
 Broken (call.SendPacket p) k =
     (e : Error) →
-    (m : Machine) × (k (undelivered e) ≡ ask (call.SendConnectionEvent (notice.PairingFailed e)) (λ r. ret m))
+    (d : PairingData)
+    × (k (undelivered e)
+    ≡ ask (call.SendConnectionEvent (notice.PairingFailed e)) (λ r. ret (enters (phase.Error e) noConfirmData d)))
 Broken (call.SendConnectionEvent e) k = Unit {0}
 Broken (call.Ask q) k = Unit {0}
 Broken (call.Draw d) k = Unit {0}

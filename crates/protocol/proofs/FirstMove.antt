@@ -1,7 +1,6 @@
 -- Fresh machines are canonical, and the link moves: from every start the head may take the request, before its host has
 -- answered anything, and then wants the answer to its first call. Assumes nothing.
 use mathlib.Core.Path.{_≡_, refl}
-use mathlib.Core.Bool.{true}
 use mathlib.Core.List.{[], _∷_}
 use mathlib.Core.Option.{some}
 use Rattle.answer.specs.Answers.{bodyAt, flagAt}
@@ -12,7 +11,7 @@ use Rattle.machine.specs.declared.Role.the-variants.{Central, Peripheral}
 use Rattle.machine.proofs.Canonical.{new-canonical, switch-canonical}
 use Rattle.protocol.specs.LegacyPeripheral.{«handle_pairing_request», transition, «handle_input»}
 use Rattle.protocol.specs.Step.{playOf, step}
-use Rattle.protocol.specs.FairLink.{Start, freshTerminal, freshHead, Shared, aPacket, Link, requestOf, freshLink, stepAt, callsAt, Move, takePacket}
+use Rattle.protocol.specs.FairLink.{Start, freshTerminal, freshHead, Shared, aPacket, Link, requestOf, freshLink, stepAt, callsAt, anInput, Move, takePacket}
 
 pub terminal-canonical : (s : Start) → Canonical Central (freshTerminal s)
 unfolding freshTerminal
@@ -25,7 +24,7 @@ head-canonical s = new-canonical _
 -- the head takes the request, lists 0x30 and wants its answer
 pub first-move :
     (shared : Shared) (s : Start) →
-    (L : Link) × Move shared (freshLink s) true L
+    (L : Link) × Move shared (freshLink s) anInput L
     × (L .head .calls ≡ call.Ask question.FindBond ∷ [])
     × (L .head .openStep ≡ some (record { given = aPacket (requestOf s); answers = [] }))
     × (L .head .machine ≡ freshHead s) × (L .head .queue ≡ [])

@@ -23,7 +23,7 @@ use Rattle.host.specs.declared.call.Call.{Call}
 use Rattle.host.specs.declared.call.Call.the-variants as call
 use Rattle.host.specs.declared.call.ConnectionEvent.the-variants as notice
 use Rattle.host.proofs.Writing.{call-short}
-use Rattle.machine.specs.Machine.{Canonical, noConfirmData, wantBonding}
+use Rattle.machine.specs.Machine.{Canonical, wantBonding}
 use Rattle.machine.specs.declared.ConfirmPhaseData.{ConfirmPhaseData}
 use Rattle.machine.specs.declared.Event.the-variants as event
 use Rattle.machine.specs.declared.Input.{Input}
@@ -35,7 +35,7 @@ use Rattle.machine.specs.declared.Phase.the-variants as phase
 use Rattle.machine.specs.declared.Role.{Role}
 use Rattle.protocol.specs.Program.{bind}
 use Rattle.protocol.specs.Ops.{Reply}
-use Rattle.protocol.specs.Handlers.{Try, ok, err, Handler, wordIn, enters, onCommand, onLinkEncrypted, onPassKeyInput, onPassKeyCancel, onOobData, onReceivingKeys, otherInput, enterBonded, enterSuccess, enterPhase, enter, entered, «store_confirm_bytes», sendEncryptionKey, sendIdentityKey, enableEncryption, «handle_encryption_information», «handle_identity_information»}
+use Rattle.protocol.specs.Handlers.{Try, ok, err, Handler, wordIn, onCommand, onLinkEncrypted, onPassKeyInput, onPassKeyCancel, onOobData, onReceivingKeys, otherInput, enterBonded, enterSuccess, enterPhase, enter, entered, «store_confirm_bytes», sendEncryptionKey, sendIdentityKey, enableEncryption, «handle_encryption_information», «handle_identity_information»}
 use Rattle.protocol.proofs.Bounds.{Within, Breaks, Keeps, Anything, OfResult, Broken, within-bind, keeps-more, either-keeps, or-fail-then, delivered-then, delivered-last, address-then, bond-then}
 
 -- no call, so any bounds
@@ -239,7 +239,7 @@ breaks-entered :
     (c : Call) (k : Reply c → Handler Machine) → Breaks c k → Broken c (λ x. bind (k x) entered)
 unfolding enter
 breaks-entered (call.SendPacket p) k b =
-    λ e. (enters (phase.Error e) noConfirmData (b e .0), ap (λ (q : Handler Machine). bind q entered) (b e .1))
+    λ e. (b e .0, ap (λ (q : Handler Machine). bind q entered) (b e .1))
 breaks-entered (call.SendConnectionEvent e) k b = tt
 breaks-entered (call.Ask q) k b = tt
 breaks-entered (call.Draw d) k b = tt

@@ -8,7 +8,7 @@ use native.Mathlib.Nat.{zero-add}
 use native.Mathlib.Omega.{arith}
 use lib.Dec.{ltb, lit≤}
 use lib.ListN.{length, drop, replicate}
-use Rattle.octets.specs.Octets.{octetsOf, writeAt}
+use Rattle.octets.specs.Octets.{octetsOf}
 use Rattle.octets.proofs.Parts.{written}
 use Rattle.types.specs.Types.{bondingCode, featuresWith}
 use Rattle.types.specs.declared.capabilities.IoCapabilities.the-variants.{NoInputNoOutput}
@@ -35,6 +35,8 @@ use Rattle.protocol.specs.Handlers.{Handler, entered, enters, withFeatur
 use Rattle.protocol.specs.LegacyCentral as central
 use Rattle.protocol.specs.LegacyPeripheral as peripheral
 use Rattle.protocol.specs.Step.{handleInput, playOf, callsOctets, longest, refusedBy, stepped, isKnown, step}
+use Rattle.protocol.specs.declared.Outcome.the-variants as outcome
+use Rattle.protocol.proofs.StepLaws.{step-list}
 use Rattle.protocol.proofs.Bounds.{within-more, Within, Broken, FailsOnce, within-fails, OfEnding, PlaysWithin, plays-within}
 use Rattle.protocol.proofs.HandlerBounds.{TransitionKeeps, Stays, entered-within}
 use Rattle.protocol.proofs.CentralBounds as central-bounds
@@ -78,18 +80,21 @@ pub most-octets :
     length (callsOctets (playOf r m i payload answers .calls)) ≤ longest
 most-octets r m i payload answers = play-limits r m i payload answers .size
 
--- so a step that ended or wants has its calls at the front of the list, and the rest of the list is as it was
+-- so on a list that is long enough, a step that is not refused has its calls at the front of the list, and the rest of
+-- the list is as it was
 pub written-front :
     (r : Role) (m : Machine) (i : Input) (payload answers list : List ℕ) → longest ≤ length list →
-    writeAt list 0 (callsOctets (playOf r m i payload answers .calls))
+    ((n : ℕ) → step r m i payload answers list .stepped .outcome ≡ outcome.Refused n → ⊥) →
+    step r m i payload answers list .list
     ≡ callsOctets (playOf r m i payload answers .calls)
     ++ drop (length (callsOctets (playOf r m i payload answers .calls))) list
-written-front r m i payload answers list h =
+written-front r m i payload answers list h n =
     let w = callsOctets (playOf r m i payload answers .calls) in
     let most = most-octets r m i payload answers in
-    written list 0 w (omega arith) ∙ ap (λ (n : ℕ). w ++ drop n list) (zero-add (length w))
+    step-list r m i payload answers list n ∙ written list 0 w (omega arith)
+    ∙ ap (λ (n : ℕ). w ++ drop n list) (zero-add (length w))
 
--- after an undelivered packet the only further call is PairingFailed
+-- after an undelivered packet the only further call is PairingFailed, and the machine stands in Error
 pub fails-once : (r : Role) (m : Machine) (i : Input) (payload : List ℕ) → FailsOnce (handleInput r m i payload)
 fails-once r m i payload =
     within-fails (Stays r m) (handleInput r m i payload) mostCalls longest (step-within r m i payload)

@@ -202,16 +202,6 @@ module _ {C : Type 0} {R : C → Type 0} {O : Type 0} (read : (c : C) → List O
 
       -- ---- answers left over do not matter
 
-      pub play-more-ended : (s w : List O) (p : Prog C R A) (at : ℕ) {a : A} → play read s p at .ending ≡ ended a
-          → play read (s ++ w) p at ≡ play read s p at
-      play-more-ended s w p at {a} =
-          along s (λ p at. play read s p at .ending ≡ ended a → play read (s ++ w) p at ≡ play read s p at)
-          (λ b at h. refl)
-          (λ c k at e h. absurd (is-ended (rw e at h)))
-          (λ c k at e h. absurd (is-ended (rw e at h)))
-          (λ c k at x n e rec h. rw (law .keeps c s w at x n e, e) (ap (listing c) (rec (rw e at h))))
-          p at
-
       play-front : (s w : List O) (p : Prog C R A) (at m : ℕ) {a : A} → play read s p at .ending ≡ ended a
           → play read s p at .place ≤ m → play read (take m s ++ w) p at ≡ play read s p at
       play-front s w p at m {a} =

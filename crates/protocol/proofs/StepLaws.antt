@@ -19,8 +19,8 @@ use Rattle.machine.specs.declared.Machine.{Machine}
 use Rattle.machine.specs.declared.Role.{Role}
 use Rattle.protocol.specs.declared.Outcome.{Outcome}
 use Rattle.protocol.specs.declared.Outcome.the-variants as outcome
-use Rattle.protocol.specs.Program.{Ending, ended, wanting, refusing, Played, play}
-use Rattle.protocol.specs.Ops.{answerSize, replyAt}
+use Rattle.protocol.specs.Program.{ask, Ending, ended, wanting, refusing, Played, play}
+use Rattle.protocol.specs.Ops.{Reply, answerSize, replyAt, Program}
 use Rattle.protocol.specs.Step.{handleInput, playOf, callsOctets, Step, longest, refusedBy, stepped, isKnown, step}
 use Rattle.protocol.proofs.Programs.{total, place-ended, place-wanting, wanting-last}
 use Rattle.protocol.proofs.Programs.{rest, answered, play-left-over, play-again}
@@ -104,6 +104,15 @@ module _ (m : Machine) (list : List ℕ) (x : Played Call Machine) where
   made-read false true refusing h = absurd (h 3 refl)
   made-read false false e h = absurd (h 2 refl)
 
+  made-list : (short known : Bool) (e : Ending Machine)
+      → ((n : ℕ) → made short known e .stepped .outcome ≡ outcome.Refused n → ⊥)
+      → made short known e .list ≡ writeAt list 0 (callsOctets (x .calls))
+  made-list true known e h = absurd (h 1 refl)
+  made-list false true (ended m₁) h = refl
+  made-list false true wanting h = refl
+  made-list false true refusing h = absurd (h 3 refl)
+  made-list false false e h = absurd (h 2 refl)
+
 module _ (r : Role) (m : Machine) (i : Input) (payload answers list : List ℕ) where
   abbrev stepBy : Ending Machine → Step
   stepBy e = stepped m list (playOf r m i payload answers .calls) (playOf r m i payload answers .place) e
@@ -130,6 +139,14 @@ module _ (r : Role) (m : Machine) (i : Input) (payload answers list : List ℕ) 
       let x = playOf r m i payload answers in
       made-read m list x (ltb (length list) longest) (isKnown i) (x .ending) h
 
+  -- a step that is not refused writes its calls to the list
+  pub step-list : ((n : ℕ) → step r m i payload answers list .stepped .outcome ≡ outcome.Refused n → ⊥)
+      → step r m i payload answers list .list ≡ writeAt list 0 (callsOctets (playOf r m i payload answers .calls))
+  unfolding step
+  step-list h =
+      let x = playOf r m i payload answers in
+      made-list m list x (ltb (length list) longest) (isKnown i) (x .ending) h
+
   -- on answers with the same play, the step is the same
   same-step : (others : List ℕ) → playOf r m i payload others ≡ playOf r m i payload answers
       → step r m i payload others list ≡ step r m i payload answers list
@@ -139,11 +156,13 @@ module _ (r : Role) (m : Machine) (i : Input) (payload answers list : List ℕ) 
 
 -- ---- what a step gives back
 
--- a step that wants: the machine given; all answers were read, one for each call but the last; the calls stand at the
--- front of the list
+-- a step that wants: the machine given; all answers were read, one for each call but the last, and the program waits at
+-- that last call; the calls are written to the list
 pub record StepWants (r : Role) (m : Machine) (i : Input) (payload answers list : List ℕ) : Type 0 where
   pub answered : List Call
   pub unanswered : Call
+  pub left : Reply unanswered → Program Machine
+  pub waits : rest replyAt answers (handleInput r m i payload) 0 ≡ ask unanswered left
   pub calls : playOf r m i payload answers .calls ≡ answered ++ (unanswered ∷ [])
   pub machine : step r m i payload answers list .stepped .machine ≡ m
   pub all-read : step r m i payload answers list .stepped .read ≡ length answers
@@ -153,7 +172,7 @@ pub record StepWants (r : Role) (m : Machine) (i : Input) (payload answers list 
   pub octets :
       step r m i payload answers list .list ≡ writeAt list 0 (callsOctets answered ++ callOctets unanswered)
 
--- a step that ends: the program's machine; one answer was read for each call; the calls stand at the front of the list
+-- a step that ends: the program's machine; one answer was read for each call; the calls are written to the list
 pub record StepEnded (r : Role) (m : Machine) (i : Input) (payload answers list : List ℕ) : Type 0 where
   pub machine : playOf r m i payload answers .ending ≡ ended (step r m i payload answers list .stepped .machine)
   pub sizes :
@@ -177,6 +196,8 @@ module _ (r : Role) (m : Machine) (i : Input) (payload answers list : List ℕ) 
       record {
         answered = l .0;
         unanswered = l .1;
+        left = l .2;
+        waits = l .4;
         calls = l .3;
         machine = ap (λ (x : Step). x .stepped .machine) (q .1);
         all-read = read-is ∙ l .5;

@@ -256,8 +256,8 @@ abbrev pub madeDueByAll : List Call → List Call → List Due
 madeDueByAll before [] = []
 madeDueByAll before (c ∷ cs) = madeDueBy before c ++ madeDueByAll (before ++ (c ∷ [])) cs
 
--- ---- A step of an end, by the definition of a step. Its list is long enough for any, so that none is refused by 1; that
--- none is refused at all is claimed in FairRuns
+-- ---- A step of an end, by the definition of a step. Its list is long enough for any, and codes are those of packets that
+-- were sent, so that none is refused by 1 or 2; that none is refused at all is claimed in FairRuns
 
 abbrev pub machineAt : Role → Link → Machine
 machineAt r L = endOf r L .machine
@@ -266,6 +266,7 @@ unfoldable pub stepAt : Shared → Role → Link → Given → List ℕ → Step
 stepAt shared r L g answers =
     step r (machineAt r L) (inputOf shared (machineAt r L) g) (payloadOf g) answers (replicate longest 0)
 
+-- the calls that it lists, also where it wants: those whose octets stand on its list
 unfoldable pub callsAt : Shared → Role → Link → Given → List ℕ → List Call
 callsAt shared r L g answers = playOf r (machineAt r L) (inputOf shared (machineAt r L) g) (payloadOf g) answers .calls
 
@@ -299,7 +300,7 @@ endAfter shared r L g answers queue due new =
       hadOob = hadOobAfter g (endOf r L .hadOob);
     }
 
--- the other end: what is sent joins its queue. Nothing else changes, its machine least of all
+-- the other end: what is sent joins its queue. Nothing else changes a machine
 abbrev pub receives : List Call → End → End
 receives new e =
     record {
@@ -315,7 +316,10 @@ abbrev pub linkAfter : Shared → Role → Link → Given → List ℕ → List 
 linkAfter shared r L g answers queue due new =
     linkOf r (endAfter shared r L g answers queue due new) (receives new (endOf (other r) L))
 
--- ---- A move
+-- ---- A move, of two kinds: an input, or an open step run again
+
+pub data MoveKind : Type 0 where
+  anInput aReRun : MoveKind
 
 abbrev pub isReport : Due → Bool
 isReport passKey = false
@@ -334,22 +338,22 @@ MayTake L Central oobData = L .head .hadOob ≡ true
 MayTake L Central encryptionOn = Unit {0}
 MayTake L Peripheral e = Unit {0}
 
--- a move of either end, of two kinds, from a link to the next; true where it is an input, the first kind. All that is
--- asked of a move stands in its case: otherwise any is allowed at any time
-pub data Move (shared : Shared) (L : Link) : Bool → Link → Type 0 where
+-- a move of either end, from a link to the next. All that is asked of it stands in its case: otherwise any is allowed at
+-- any time
+pub data Move (shared : Shared) (L : Link) : MoveKind → Link → Type 0 where
   -- an end with no open step gets its oldest queued packet, which leaves the queue
   takePacket :
       (r : Role) (p : QueuedPacket) (queue : List QueuedPacket) (answers : List ℕ) →
       endOf r L .openStep ≡ none → endOf r L .queue ≡ p ∷ queue → reportDue (endOf r L .due) ≡ false →
       FairHost shared r L (aPacket p) answers →
-      Move shared L true
+      Move shared L anInput
       (linkAfter shared r L (aPacket p) answers queue (endOf r L .due) (callsAt shared r L (aPacket p) answers))
   -- .. or an event due there, which is due no more
   takeEvent :
       (r : Role) (e : Due) (earlier later : List Due) (answers : List ℕ) →
       endOf r L .openStep ≡ none → endOf r L .due ≡ earlier ++ (e ∷ later) → MayTake L r e →
       FairHost shared r L (anEvent e) answers →
-      Move shared L true
+      Move shared L anInput
       (linkAfter shared r L (anEvent e) answers (endOf r L .queue) (earlier ++ later) (callsAt shared r L (anEvent e) answers))
   -- an open step is run again on the machine and input it had, its host answers kept and at least one added; a call
   -- counts once, when first listed
@@ -357,33 +361,34 @@ pub data Move (shared : Shared) (L : Link) : Bool → Link → Type 0 where
       (r : Role) (g : Given) (kept : List ℕ) (x : ℕ) (added : List ℕ) →
       endOf r L .openStep ≡ some (record { given = g; answers = kept }) →
       FairHost shared r L g (kept ++ (x ∷ added)) →
-      Move shared L false
+      Move shared L aReRun
       (linkAfter shared r L g (kept ++ (x ∷ added)) (endOf r L .queue) (endOf r L .due)
       (drop (length (callsAt shared r L g kept)) (callsAt shared r L g (kept ++ (x ∷ added)))))
 
 -- the outcome of its step
-abbrev pub outcomeOf : {shared : Shared} {L L₁ : Link} {i : Bool} → Move shared L i L₁ → Outcome
+abbrev pub outcomeOf : {shared : Shared} {L L₁ : Link} {k : MoveKind} → Move shared L k L₁ → Outcome
 outcomeOf {shared} {L} (takePacket r p queue answers o q d f) = stepAt shared r L (aPacket p) answers .stepped .outcome
 outcomeOf {shared} {L} (takeEvent r e earlier later answers o q d f) = stepAt shared r L (anEvent e) answers .stepped .outcome
 outcomeOf {shared} {L} (runAgain r g kept x added o f) = stepAt shared r L g (kept ++ (x ∷ added)) .stepped .outcome
 
 -- ---- Lists of moves, and runs
 
-abbrev pub countInput : Bool → ℕ → ℕ
-countInput true n = suc n
-countInput false n = n
+-- inputs count moves of the first kind
+abbrev pub countInput : MoveKind → ℕ → ℕ
+countInput anInput n = suc n
+countInput aReRun n = n
 
 -- a list of allowed moves: how many they are, and how many of them are inputs
 pub data Moves (shared : Shared) : Link → ℕ → ℕ → Link → Type 0 where
   noMove : {L : Link} → Moves shared L zero zero L
   move :
-      {L L₁ L₂ : Link} {i : Bool} {moves inputs : ℕ} →
-      Move shared L i L₁ → Moves shared L₁ moves inputs L₂ → Moves shared L (suc moves) (countInput i inputs) L₂
+    {L L₁ L₂ : Link} {k : MoveKind} {moves inputs : ℕ} →
+    Move shared L k L₁ → Moves shared L₁ moves inputs L₂ → Moves shared L (suc moves) (countInput k inputs) L₂
 
 -- a run is a list of allowed moves after which none is allowed
 pub record Run (shared : Shared) (L : Link) (moves inputs : ℕ) (L₁ : Link) : Type 0 where
   pub all : Moves shared L moves inputs L₁
-  pub over : (i : Bool) (L₂ : Link) → Move shared L₁ i L₂ → ⊥
+  pub over : (k : MoveKind) (L₂ : Link) → Move shared L₁ k L₂ → ⊥
 
 -- nothing is queued, due or open
 pub record Idle (e : End) : Type 0 where

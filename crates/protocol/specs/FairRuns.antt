@@ -33,7 +33,7 @@ use Rattle.protocol.specs.declared.Outcome.the-variants as outcome
 use Rattle.protocol.specs.declared.Stepped.{Stepped}
 use Rattle.protocol.specs.Handlers.{namesEncryptionKey, namesIdentityKey, smaller}
 use Rattle.protocol.specs.Step.{longest, step}
-use Rattle.protocol.specs.FairLink.{Start, FairStart, Shared, Link, freshLink, Move, outcomeOf, Moves, Run, Idle}
+use Rattle.protocol.specs.FairLink.{Start, FairStart, Shared, Link, freshLink, MoveKind, Move, outcomeOf, Moves, Run, Idle}
 
 -- ---- entries: 1 where the method has one end type, 2 where it has both type or is OOB, else 0
 
@@ -128,7 +128,7 @@ pub record WaitsForIdentityKey (m : Machine) : Type 0 where
 abbrev pub excepted : PairingFeatures → PairingFeatures → Bool
 excepted request answer = not (bothBond request answer) && namesIdentityKey (request .«initiator_key_distribution»)
 
-abbrev pub HeadEnds : (excepted : Bool) → Machine → Type 0
+abbrev pub HeadEnds : (isExcepted : Bool) → Machine → Type 0
 HeadEnds true m = WaitsForIdentityKey m
 HeadEnds false m = m .phase ≡ phase.Success
 
@@ -178,24 +178,26 @@ NotRefused outcome.Ended = Unit {0}
 NotRefused outcome.Wants = Unit {0}
 NotRefused (outcome.Refused n) = ⊥
 
--- every run from a start ends. (A run itself is a list of allowed moves after which none is allowed: FairLink.)
-pub record RunsEnd (shared : Shared) (s : Start) : Type 0 where
-  -- some number bounds the moves, re-runs included, of every list of allowed moves
-  pub bound : ℕ
+-- every run from a start ends, with this bound. (A run itself is a list of allowed moves after which none is allowed:
+-- FairLink.)
+pub record RunsEnd (s : Start) (bound : ℕ) (shared : Shared) : Type 0 where
+  -- the number bounds the moves, re-runs included, of every list of allowed moves
   pub bounded : (moves inputs : ℕ) (L : Link) → Moves shared (freshLink s) moves inputs L → moves ≤ bound
   -- every list of allowed moves is the beginning of a run
   pub begins :
-      (moves inputs : ℕ) (L : Link) → Moves shared (freshLink s) moves inputs L →
-      (more moreInputs : ℕ) × (L₁ : Link) × Run shared L more moreInputs L₁
+    (moves inputs : ℕ) (L : Link) → Moves shared (freshLink s) moves inputs L →
+    (more moreInputs : ℕ) × (L₁ : Link) × Run shared L more moreInputs L₁
   -- no step on the way is refused
   pub accepted :
-      (moves inputs : ℕ) (L : Link) → Moves shared (freshLink s) moves inputs L →
-      (i : Bool) (L₁ : Link) (x : Move shared L i L₁) → NotRefused (outcomeOf x)
+    (moves inputs : ℕ) (L : Link) → Moves shared (freshLink s) moves inputs L →
+    (k : MoveKind) (L₁ : Link) (x : Move shared L k L₁) → NotRefused (outcomeOf x)
   -- inputs, the moves of the first kind, are at most 18 in any list of moves
   pub fewInputs : (moves inputs : ℕ) (L : Link) → Moves shared (freshLink s) moves inputs L → inputs ≤ 18
   -- what every run comes to
-  pub comesTo : (moves inputs : ℕ) (L : Link) → Run shared (freshLink s) moves inputs L → RunEnds (s .request) inputs L
+  pub comesTo :
+    (moves inputs : ℕ) (L : Link) → Run shared (freshLink s) moves inputs L → RunEnds (s .request) inputs L
 
--- demand 3: all starts, all orders of moves, all host answers, all passkeys and OOB data
+-- demand 3: from each start some number bounds all lists of moves, in all orders, with all host answers, passkeys and OOB
+-- data, and every run comes to what is said
 abbrev pub EveryFairRunEnds : Type 0
-EveryFairRunEnds = (shared : Shared) (s : Start) → FairStart s → RunsEnd shared s
+EveryFairRunEnds = (s : Start) → FairStart s → (bound : ℕ) × ((shared : Shared) → RunsEnd s bound shared)

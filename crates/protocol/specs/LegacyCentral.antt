@@ -1,8 +1,8 @@
--- legacy_central.rs, the initiator: each of its functions as a program of host calls, under its name in «». What a
--- function calls stands before it, so the FSM core comes last; else the order is the file's. In the same words in both
--- files, and so in Handlers: `enter`, `store_confirm_bytes`, `handle_encryption_information`,
--- `handle_identity_information`. With the machine stand `result`, `is_encrypted` and `from_lesc_switch`; `mark_timeout` is
--- left out with the timer. Assumes nothing.
+-- legacy_central.rs, the initiator: each of its functions as a program of host calls, under its name, in «» where the
+-- name has several words. What a function calls stands before it, so the FSM core comes last; else the order is the
+-- file's. In the same words in both files, and so in Handlers: `enter`, `store_confirm_bytes`,
+-- `handle_encryption_information`, `handle_identity_information`. With the machine stand `resultOf`, `isEncrypted` and
+-- `lescSwitch` (`from_lesc_switch`); `mark_timeout` is left out with the timer. Assumes nothing.
 use Prim.Native.Nat.{ℕ}
 use mathlib.Core.Bool.{Bool, true, false}
 use mathlib.Core.List.{List}
@@ -58,7 +58,7 @@ unfoldable pub «send_all_keys» : PairingData → Handler Machine
   sendIdentityKey d₁ (namesIdentityKey named)
   give (enters phase.Success noConfirmData d₁)
 
--- the peripheral's identity key is awaited where the response names it; then the central sends its keys
+-- the peripheral's identity key is awaited where the response names it, else the central sends its keys
 unfoldable pub awaitIdentityOrSend : PairingData → Bool → Handler Machine
 awaitIdentityOrSend d true = give (enters phase.WaitingIdentitityInformation noConfirmData d)
 awaitIdentityOrSend d false = «send_all_keys» d

@@ -1,8 +1,8 @@
--- legacy_peripheral.rs, the responder: each of its functions as a program of host calls, under its name in «». What a
--- function calls stands before it, so the FSM core comes last; else the order is the file's. In the same words in both
--- files, and so in Handlers: `enter`, `store_confirm_bytes`, `handle_encryption_information`,
--- `handle_identity_information`. With the machine stand `result`, `is_encrypted` and `new`; `mark_timeout` is left out
--- with the timer. Assumes nothing.
+-- legacy_peripheral.rs, the responder: each of its functions as a program of host calls, under its name, in «» where the
+-- name has several words. What a function calls stands before it, so the FSM core comes last; else the order is the
+-- file's. In the same words in both files, and so in Handlers: `enter`, `store_confirm_bytes`,
+-- `handle_encryption_information`, `handle_identity_information`. With the machine stand `resultOf`, `isEncrypted` and
+-- `newMachine` (`new`); `mark_timeout` is left out with the timer. Assumes nothing.
 use Prim.Native.Nat.{ℕ}
 use mathlib.Core.Bool.{Bool, true, false, not}
 use mathlib.Core.List.{List}
@@ -68,7 +68,7 @@ unfoldable pub awaitKeys : PairingData → Bool → Handler Machine
 awaitKeys d true = give (enters (phase.ReceivingKeys 0 (record { 0 = zeroWord })) noConfirmData d)
 awaitKeys d false = awaitIdentityOrSucceed d (namesIdentityKey (d .«peer_features» .«initiator_key_distribution»))
 
--- its own keys are sent first; what it sends is kept in the bond
+-- its own keys are sent first, and whole; the bond keeps the LTK cut, EDIV and Rand
 unfoldable pub «send_all_keys» : PairingData → Handler Machine
 «send_all_keys» d = do
   let named = d .«local_features» .«responder_key_distribution»
@@ -111,7 +111,7 @@ unfoldable pub «handle_pass_key_input» : ConfirmPhaseData → PairingData → 
 
 -- ---- Protocol helpers
 
--- a request while there is a bond: the bond is lost
+-- a request while there is a bond: the host is told BondLost
 abbrev pub bondLost : Bool → Handler (Unit {0})
 bondLost true = attemptEvent notice.BondLost
 bondLost false = give tt

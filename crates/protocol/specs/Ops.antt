@@ -1,5 +1,6 @@
--- The host as a handler sees it: PairingOps and the generator of pairing/mod.rs, as calls and their replies. Verdicts and
--- octets that are forbidden are dealt with here, where an answer is read, and not in the handlers. Assumes nothing.
+-- The host as a handler sees it: PairingOps and the generator of pairing/mod.rs, as calls and their replies. What a
+-- verdict means, and which octets are forbidden, is said here, where an answer is read, and not in the handlers. Assumes
+-- nothing.
 use Prim.Native.Nat.{ℕ, _+_}
 use mathlib.Core.Bool.{Bool, cond}
 use mathlib.Core.List.{List}
