@@ -27,7 +27,7 @@ abbrev pub transitionOf : Role → Machine → Input → List ℕ → Handler Ma
 transitionOf Central m i payload = central.transition m i payload
 transitionOf Peripheral m i payload = peripheral.transition m i payload
 
-same-ways : {A : Type 0} (b c : Bool) (x : A) → cond b x (cond c x x) ≡ x
+pub same-ways : {A : Type 0} (b c : Bool) (x : A) → cond b x (cond c x x) ≡ x
 same-ways true c x = refl
 same-ways false true x = refl
 same-ways false false x = refl

@@ -1,5 +1,7 @@
+pub mod Allowed
 pub mod Awaited
 pub mod Codes
+pub mod Corners
 pub mod Programs
 pub mod Replies
 pub mod StepLaws

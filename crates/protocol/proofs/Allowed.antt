@@ -1,0 +1,108 @@
+-- What the fair link allows, so that nothing is true of fair runs for want of them: there are fair starts at the ends of
+-- every range, hosts that answer nothing, free answers, and packets that come while a passkey is typed. Assumes nothing.
+use mathlib.Core.Path.{_≡_, refl}
+use mathlib.Core.Bool.{Bool}
+use mathlib.Core.List.{List, [], _∷_}
+use mathlib.Core.Option.{none}
+use Prim.Native.Nat.{ℕ}
+use lib.Dec.{lit≤}
+use Rattle.crypto.specs.declared.crypto.IdentityResolvingKey.{IdentityResolvingKey}
+use Rattle.crypto.specs.declared.crypto.LongTermKey.{LongTermKey}
+use Rattle.crypto.specs.declared.crypto.Nonce.{Nonce}
+use Rattle.types.specs.Types.{featuresWith}
+use Rattle.types.specs.declared.capabilities.IoCapabilities.the-variants.{KeyboardOnly, KeyboardDisplay}
+use Rattle.types.specs.declared.types.UseOutOfBand.the-variants.{NotPresent, Present}
+use Rattle.bond.specs.declared.Address.{Address}
+use Rattle.bond.specs.declared.BondInformation.{BondInformation}
+use Rattle.bond.specs.declared.OptionBond.{OptionBond}
+use Rattle.answer.specs.declared.AddressResult.the-variants as address-result
+use Rattle.answer.specs.declared.BondResult.the-variants as bond-result
+use Rattle.answer.specs.declared.OptionBondResult.the-variants as option-result
+use Rattle.machine.specs.declared.Machine.{Machine}
+use Rattle.machine.specs.declared.Role.{Role}
+use Rattle.protocol.specs.Program.{ret, ask}
+use Rattle.protocol.specs.Ops.{delivered, aVerdict, aFlag, anIrk, anAddress, aNonce, aPassKey, anLtk, anEdiv, aRand, aBond, anOptionBond, Program}
+use Rattle.protocol.specs.Step.{handleInput}
+use Rattle.protocol.specs.FairLink.{Start, FairStart, Shared, FairReply, FairAnswers, QueuedPacket, passKey, Given, aPacket, inputOf, payloadOf, Link, endOf, machineAt, FairHost, anInput, Move, takePacket}
+use Rattle.protocol.proofs.Replies.{reply-at-end}
+
+-- ---- starts
+
+-- records that name every key, with the smallest and the largest key size
+abbrev fullStart : Address → Address → Start
+fullStart a b =
+    record {
+      request = featuresWith (4 ∷ 1 ∷ 0xFF ∷ 7 ∷ 0xFF ∷ 0xFF ∷ []) KeyboardDisplay Present 7;
+      headFeatures = featuresWith (2 ∷ 0 ∷ 0xFF ∷ 16 ∷ 0xFF ∷ 0xFF ∷ []) KeyboardOnly NotPresent 16;
+      terminalAddress = a;
+      headAddress = b;
+    }
+
+pub full-start : (a b : Address) → FairStart (fullStart a b)
+full-start a b =
+    record {
+      requestOctets = (lit≤ tt, (lit≤ tt, (lit≤ tt, (lit≤ tt, (lit≤ tt, (lit≤ tt, tt))))));
+      headOctets = (lit≤ tt, (lit≤ tt, (lit≤ tt, (lit≤ tt, (lit≤ tt, (lit≤ tt, tt))))));
+      requestSizeLeast = lit≤ tt;
+      requestSizeLargest = lit≤ tt;
+      headSizeLeast = lit≤ tt;
+      headSizeLargest = lit≤ tt;
+      headFlags = record { encryption = λ h. refl; identity = λ h. refl };
+    }
+
+-- ---- hosts
+
+none-fair : (shared : Shared) (p : Program Machine) → FairAnswers shared p [] 0
+none-fair shared (ret m) = tt
+none-fair shared (ask c k) = rw (reply-at-end c []) tt
+
+-- a host may answer nothing yet, whatever the input
+pub no-answers : (shared : Shared) (r : Role) (L : Link) (g : Given) → FairHost shared r L g []
+no-answers shared r L g =
+    record {
+      octets = tt;
+      fair = none-fair shared (handleInput r (machineAt r L) (inputOf shared (machineAt r L) g) (payloadOf g));
+    }
+
+-- verdicts are 0, and a passkey drawn is the one shown
+pub verdict-zero : (shared : Shared) → FairReply shared aVerdict delivered
+verdict-zero shared = refl
+
+pub passkey-shown : (shared : Shared) → FairReply shared aPassKey (record { 0 = shared .shown })
+passkey-shown shared = refl
+
+-- every other answer is free
+pub record Free (shared : Shared) : Type 0 where
+  pub flag : (x : Bool) → FairReply shared aFlag x
+  pub irk : (x : IdentityResolvingKey) → FairReply shared anIrk x
+  pub address : (x : Address) → FairReply shared anAddress (address-result.Ok x)
+  pub nonce : (x : Nonce) → FairReply shared aNonce x
+  pub ltk : (x : LongTermKey) → FairReply shared anLtk x
+  pub ediv : (x : ℕ) → FairReply shared anEdiv x
+  pub rand : (x : ℕ) → FairReply shared aRand x
+  pub bond : (x : BondInformation) → FairReply shared aBond (bond-result.Ok x)
+  pub optionBond : (x : OptionBond) → FairReply shared anOptionBond (option-result.Ok x)
+
+pub free : (shared : Shared) → Free shared
+free shared =
+    record {
+      flag = λ x. tt;
+      irk = λ x. tt;
+      address = λ x. tt;
+      nonce = λ x. tt;
+      ltk = λ x. tt;
+      ediv = λ x. tt;
+      rand = λ x. tt;
+      bond = λ x. tt;
+      optionBond = λ x. tt;
+    }
+
+-- ---- moves
+
+-- a packet may come while a passkey is typed
+pub packet-while-typing :
+    (shared : Shared) (r : Role) (L : Link) (p : QueuedPacket) (queue : List QueuedPacket) →
+    endOf r L .openStep ≡ none → endOf r L .queue ≡ p ∷ queue → endOf r L .due ≡ passKey ∷ [] →
+    (L₁ : Link) × Move shared L anInput L₁
+packet-while-typing shared r L p queue o q d =
+    (_, takePacket r p queue [] o q (rw d refl) (no-answers shared r L (aPacket p)))
