@@ -1,5 +1,5 @@
--- Bounds of programs of host calls: how many calls, of how many octets together, and that an undelivered packet ends a
--- handler; with the rules that carry them from the parts of a handler to the whole. Assumes nothing.
+-- Bounds of programs of host calls: how many calls, of how many octets together, and what a failure to deliver does; with
+-- the rules that carry them from the parts of a handler to the whole. Assumes nothing.
 use Prim.Native.Nat.{ℕ, _-_, _≤_}
 use mathlib.Core.Bool.{Bool, true, false, cond}
 use mathlib.Core.Option.{Option, none, some}
@@ -14,6 +14,7 @@ use Rattle.bond.specs.declared.OptionBond.{OptionBond}
 use Rattle.host.specs.Calls.{callOctets, allOctets}
 use Rattle.host.specs.declared.call.Call.{Call}
 use Rattle.host.specs.declared.call.Call.the-variants as call
+use Rattle.host.specs.declared.call.ConnectionEvent.{ConnectionEvent}
 use Rattle.host.specs.declared.call.ConnectionEvent.the-variants as notice
 use Rattle.answer.specs.declared.AddressResult.{AddressResult}
 use Rattle.answer.specs.declared.AddressResult.the-variants as address-result
@@ -77,15 +78,32 @@ within-bind B D P Q (ask c k) f n o n₁ o₁ b h g w v =
 
 -- ---- bounds of a handler
 
--- an undelivered packet fails the handler at once, with the packet's error
+-- an undelivered one fails the handler at once, with its error
+abbrev pub Fails : {A : Type 0} → (Delivery → Handler A) → Type 0
+Fails k = (e : Error) → (d : PairingData) × (k (undelivered e) ≡ ret (err d e))
+
+-- whether it is delivered does not matter
+abbrev pub Alike : {A : Type 0} → (Delivery → Program A) → Type 0
+Alike k = (x y : Delivery) → k x ≡ k y
+
+-- packets, and the events that the pairing needs, fail the handler; of BondLost, PairingFailed, PairingComplete and a bond
+-- update a failure does not matter
+abbrev pub BreaksEvent : {A : Type 0} → ConnectionEvent → (Delivery → Handler A) → Type 0
+BreaksEvent (notice.PairingFailed e) k = Alike k
+BreaksEvent (notice.PairingComplete l b) k = Alike k
+BreaksEvent (notice.PassKeyDisplay n) k = Fails k
+BreaksEvent notice.PassKeyInput k = Fails k
+BreaksEvent notice.BondLost k = Alike k
+BreaksEvent notice.OobRequest k = Fails k
+
 abbrev pub Breaks : {A : Type 0} → OfCalls (Try A)
-Breaks (call.SendPacket p) k = (e : Error) → (d : PairingData) × (k (undelivered e) ≡ ret (err d e))
-Breaks (call.SendConnectionEvent e) k = Unit {0}
+Breaks (call.SendPacket p) k = Fails k
+Breaks (call.SendConnectionEvent e) k = BreaksEvent e k
 Breaks (call.Ask q) k = Unit {0}
 Breaks (call.Draw d) k = Unit {0}
 Breaks (call.EnableEncryption w l n) k = Unit {0}
 Breaks call.EnableBondedEncryption k = Unit {0}
-Breaks (call.UpdateBondInformation b) k = Unit {0}
+Breaks (call.UpdateBondInformation b) k = Alike k
 
 -- P holds of a result; nothing is asked of a failure
 abbrev pub OfResult : {A : Type 0} → (A → Type 0) → Try A → Type 0
@@ -100,16 +118,32 @@ Keeps P n o p = Within Breaks (OfResult P) n o p
 abbrev pub Anything : {A : Type 0} → A → Type 0
 Anything a = Unit {0}
 
+fails-then : {A C : Type 0} (f : A → Handler C) (k : Delivery → Handler A) → Fails k → Fails (λ x. bind (k x) (onTry f))
+fails-then f k b = λ e. (b e .0, ap (λ (q : Handler _). bind q (onTry f)) (b e .1))
+
+pub alike-then : {A C : Type 0} (f : A → Program C) (k : Delivery → Program A) → Alike k → Alike (λ x. bind (k x) f)
+alike-then f k b = λ x y. ap (λ (q : Program _). bind q f) (b x y)
+
+event-then :
+    {A C : Type 0} (f : A → Handler C) (e : ConnectionEvent) (k : Delivery → Handler A) → BreaksEvent e k →
+    BreaksEvent e (λ x. bind (k x) (onTry f))
+event-then f (notice.PairingFailed e) k b = alike-then (onTry f) k b
+event-then f (notice.PairingComplete l o) k b = alike-then (onTry f) k b
+event-then f (notice.PassKeyDisplay n) k b = fails-then f k b
+event-then f notice.PassKeyInput k b = fails-then f k b
+event-then f notice.BondLost k b = alike-then (onTry f) k b
+event-then f notice.OobRequest k b = fails-then f k b
+
 breaks-then :
     {A C : Type 0} (f : A → Handler C) (c : Call) (k : Reply c → Handler A) → Breaks c k →
     Breaks c (λ x. bind (k x) (onTry f))
-breaks-then f (call.SendPacket p) k b = λ e. (b e .0, ap (λ (q : Handler _). bind q (onTry f)) (b e .1))
-breaks-then f (call.SendConnectionEvent e) k b = tt
+breaks-then f (call.SendPacket p) k b = fails-then f k b
+breaks-then f (call.SendConnectionEvent e) k b = event-then f e k b
 breaks-then f (call.Ask q) k b = tt
 breaks-then f (call.Draw d) k b = tt
 breaks-then f (call.EnableEncryption w l n) k b = tt
 breaks-then f call.EnableBondedEncryption k b = tt
-breaks-then f (call.UpdateBondInformation w) k b = tt
+breaks-then f (call.UpdateBondInformation w) k b = alike-then (onTry f) k b
 
 result-more : {A : Type 0} (P Q : A → Type 0) → ((a : A) → P a → Q a) → (x : Try A) → OfResult P x → OfResult Q x
 result-more P Q f (ok a) h = f a h
@@ -179,22 +213,33 @@ either-keeps P n o false p q h g = g
 
 -- ---- bounds of a step
 
--- an undelivered packet's error goes out in PairingFailed, which is the step's last call, and the machine stands in Error
--- with the pairing data as they are by then
-abbrev pub Broken : OfCalls Machine
-Broken (call.SendPacket p) k =
+-- the error of an undelivered one goes out in PairingFailed, which is the step's last call, and the machine stands in
+-- Error with the pairing data as they are by then
+abbrev pub EndsIn : (Delivery → Program Machine) → Type 0
+EndsIn k =
     (e : Error) →
     (d : PairingData)
     × (k (undelivered e)
     ≡ ask (call.SendConnectionEvent (notice.PairingFailed e)) (λ r. ret (enters (phase.Error e) noConfirmData d)))
-Broken (call.SendConnectionEvent e) k = Unit {0}
+
+abbrev pub BrokenEvent : ConnectionEvent → (Delivery → Program Machine) → Type 0
+BrokenEvent (notice.PairingFailed e) k = Alike k
+BrokenEvent (notice.PairingComplete l b) k = Alike k
+BrokenEvent (notice.PassKeyDisplay n) k = EndsIn k
+BrokenEvent notice.PassKeyInput k = EndsIn k
+BrokenEvent notice.BondLost k = Alike k
+BrokenEvent notice.OobRequest k = EndsIn k
+
+abbrev pub Broken : OfCalls Machine
+Broken (call.SendPacket p) k = EndsIn k
+Broken (call.SendConnectionEvent e) k = BrokenEvent e k
 Broken (call.Ask q) k = Unit {0}
 Broken (call.Draw d) k = Unit {0}
 Broken (call.EnableEncryption w l n) k = Unit {0}
 Broken call.EnableBondedEncryption k = Unit {0}
-Broken (call.UpdateBondInformation b) k = Unit {0}
+Broken (call.UpdateBondInformation b) k = Alike k
 
--- .. of every packet of a step
+-- .. of every call of a step
 abbrev pub FailsOnce : Program Machine → Type 0
 FailsOnce (ret m) = Unit {0}
 FailsOnce (ask c k) = Broken c k × ((x : Reply c) → FailsOnce (k x))

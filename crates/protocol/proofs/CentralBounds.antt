@@ -107,16 +107,16 @@ begin-method-keeps :
     (preq pres : List ℕ) (d : PairingData) (chosen : PairingMethod) → Keeps Enters 4 24 (beginMethod preq pres d chosen)
 unfolding beginMethod callOctets
 begin-method-keeps preq pres d method.OutOfBand =
-    (lit≤ tt, lit≤ tt, tt, delivered-then _ _ _ _ d (record { ofRole = tt; kept = refl }))
+    (lit≤ tt, lit≤ tt, λ e. (d, refl), delivered-then _ _ _ _ d (record { ofRole = tt; kept = refl }))
 begin-method-keeps preq pres d (method.PassKeyEntry action.Display peripheral) = (
   lit≤ tt,
   lit≤ tt,
   tt,
   λ tk.
-      (lit≤ tt, lit≤ tt, tt, delivered-then _ _ _ _ d (begin-confirm-keeps preq pres d (passKeyTk (tk .0)))),
+      (lit≤ tt, lit≤ tt, λ e. (d, refl), delivered-then _ _ _ _ d (begin-confirm-keeps preq pres d (passKeyTk (tk .0)))),
 )
 begin-method-keeps preq pres d (method.PassKeyEntry action.Input peripheral) =
-    (lit≤ tt, lit≤ tt, tt, delivered-then _ _ _ _ d (record { ofRole = tt; kept = refl }))
+    (lit≤ tt, lit≤ tt, λ e. (d, refl), delivered-then _ _ _ _ d (record { ofRole = tt; kept = refl }))
 begin-method-keeps preq pres d method.JustWorks =
     keeps-more Enters Enters (beginConfirm preq pres d zeroWord) 2 18 4 24 (λ m h. h) (lit≤ tt) (lit≤ tt)
     (begin-confirm-keeps preq pres d zeroWord)

@@ -21,6 +21,7 @@ use Rattle.bond.specs.declared.OptionBond.the-variants as option
 use Rattle.host.specs.Calls.{callOctets}
 use Rattle.host.specs.declared.call.Call.{Call}
 use Rattle.host.specs.declared.call.Call.the-variants as call
+use Rattle.host.specs.declared.call.ConnectionEvent.{ConnectionEvent}
 use Rattle.host.specs.declared.call.ConnectionEvent.the-variants as notice
 use Rattle.host.proofs.Writing.{call-short}
 use Rattle.machine.specs.Machine.{Canonical, wantBonding}
@@ -34,9 +35,9 @@ use Rattle.machine.specs.declared.Phase.{Phase}
 use Rattle.machine.specs.declared.Phase.the-variants as phase
 use Rattle.machine.specs.declared.Role.{Role}
 use Rattle.protocol.specs.Program.{bind}
-use Rattle.protocol.specs.Ops.{Reply}
+use Rattle.protocol.specs.Ops.{Delivery, Reply}
 use Rattle.protocol.specs.Handlers.{Try, ok, err, Handler, wordIn, onCommand, onLinkEncrypted, onPassKeyInput, onPassKeyCancel, onOobData, onReceivingKeys, otherInput, enterBonded, enterSuccess, enterPhase, enter, entered, «store_confirm_bytes», sendEncryptionKey, sendIdentityKey, enableEncryption, «handle_encryption_information», «handle_identity_information»}
-use Rattle.protocol.proofs.Bounds.{Within, Breaks, Keeps, Anything, OfResult, Broken, within-bind, keeps-more, either-keeps, or-fail-then, delivered-then, delivered-last, address-then, bond-then}
+use Rattle.protocol.proofs.Bounds.{Fails, EndsIn, BreaksEvent, BrokenEvent, alike-then, Within, Breaks, Keeps, Anything, OfResult, Broken, within-bind, keeps-more, either-keeps, or-fail-then, delivered-then, delivered-last, address-then, bond-then}
 
 -- no call, so any bounds
 pub store-confirm-bytes-keeps :
@@ -213,15 +214,15 @@ unfolding enter callOctets octetsOf bdAddrOctets addressOctets bondOctets
 enter-within P m h = at (m .phase)
   where
     bonded : (b : BondInformation) (wanted : Bool) → Within Broken P 2 106 (enterBonded m b wanted)
-    bonded b true = (lit≤ tt, lit≤ tt, tt, λ x. (lit≤ tt, lit≤ tt, tt, λ y. h))
-    bonded b false = (lit≤ tt, lit≤ tt, tt, λ x. h)
+    bonded b true = (lit≤ tt, lit≤ tt, λ x y. refl, λ x. (lit≤ tt, lit≤ tt, λ y z. refl, λ y. h))
+    bonded b false = (lit≤ tt, lit≤ tt, λ x y. refl, λ x. h)
 
     success : (b : OptionBond) → Within Broken P 2 106 (enterSuccess m b)
     success (option.Some b) = bonded b (wantBonding (m .«pairing_data»))
     success option.None = h
 
     at : (p : Phase) → Within Broken P 2 106 (enterPhase m p)
-    at (phase.Error e) = (lit≤ tt, short e, tt, λ x. h)
+    at (phase.Error e) = (lit≤ tt, short e, λ x y. refl, λ x. h)
     at phase.Success = success (m .«pairing_data» .«bond_information»)
     at phase.WaitingPairingRequest = h
     at phase.WaitingPairingResponse = h
@@ -234,18 +235,29 @@ enter-within P m h = at (m .phase)
     at phase.WaitingIdentitityAddressInformation = h
     at (phase.ReceivingKeys n k) = h
 
--- what fails a handler breaks the step
+-- what fails a handler ends the step
+fails-entered : (k : Delivery → Handler Machine) → Fails k → EndsIn (λ x. bind (k x) entered)
+unfolding enter
+fails-entered k b = λ e. (b e .0, ap (λ (q : Handler Machine). bind q entered) (b e .1))
+
+event-entered :
+    (e : ConnectionEvent) (k : Delivery → Handler Machine) → BreaksEvent e k → BrokenEvent e (λ x. bind (k x) entered)
+event-entered (notice.PairingFailed e) k b = alike-then entered k b
+event-entered (notice.PairingComplete l o) k b = alike-then entered k b
+event-entered (notice.PassKeyDisplay n) k b = fails-entered k b
+event-entered notice.PassKeyInput k b = fails-entered k b
+event-entered notice.BondLost k b = alike-then entered k b
+event-entered notice.OobRequest k b = fails-entered k b
+
 breaks-entered :
     (c : Call) (k : Reply c → Handler Machine) → Breaks c k → Broken c (λ x. bind (k x) entered)
-unfolding enter
-breaks-entered (call.SendPacket p) k b =
-    λ e. (b e .0, ap (λ (q : Handler Machine). bind q entered) (b e .1))
-breaks-entered (call.SendConnectionEvent e) k b = tt
+breaks-entered (call.SendPacket p) k b = fails-entered k b
+breaks-entered (call.SendConnectionEvent e) k b = event-entered e k b
 breaks-entered (call.Ask q) k b = tt
 breaks-entered (call.Draw d) k b = tt
 breaks-entered (call.EnableEncryption w l n) k b = tt
 breaks-entered call.EnableBondedEncryption k b = tt
-breaks-entered (call.UpdateBondInformation w) k b = tt
+breaks-entered (call.UpdateBondInformation w) k b = alike-then entered k b
 
 -- a transition, and then the state that it gives is entered
 pub entered-within :

@@ -1,5 +1,5 @@
--- The limits of a step of either role: at most 11 calls of at most 164 octets, both reached; after an undelivered
--- packet PairingFailed alone; a canonical machine stays canonical. Assumes nothing.
+-- The limits of a step of either role: at most 11 calls of at most 164 octets, both reached; what a failure to deliver
+-- does, after a packet PairingFailed alone; a canonical machine stays canonical. Assumes nothing.
 use Prim.Native.Nat.{ℕ, _≤_}
 use mathlib.Core.Bool.{Bool, true, false, cond}
 use mathlib.Core.Path.{_≡_, refl, ap, _∙_}
@@ -94,7 +94,8 @@ written-front r m i payload answers list h n =
     step-list r m i payload answers list n ∙ written list 0 w (omega arith)
     ∙ ap (λ (n : ℕ). w ++ drop n list) (zero-add (length w))
 
--- after an undelivered packet the only further call is PairingFailed, and the machine stands in Error
+-- after an undelivered packet, or an undelivered event that the pairing needs, the only further call is PairingFailed, and
+-- the machine stands in Error; of BondLost, PairingFailed, PairingComplete and a bond update a failure does not matter
 pub fails-once : (r : Role) (m : Machine) (i : Input) (payload : List ℕ) → FailsOnce (handleInput r m i payload)
 fails-once r m i payload =
     within-fails (Stays r m) (handleInput r m i payload) mostCalls longest (step-within r m i payload)

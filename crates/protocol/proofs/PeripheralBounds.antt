@@ -89,7 +89,7 @@ pass-key-input-keeps c d n stored.None = record { ofRole = tt; kept = refl }
 
 bond-lost-keeps : (found : Bool) → Keeps Anything 1 1 (bondLost found)
 unfolding callOctets
-bond-lost-keeps true = (lit≤ tt, lit≤ tt, tt, λ x. tt)
+bond-lost-keeps true = (lit≤ tt, lit≤ tt, λ x y. refl, λ x. tt)
 bond-lost-keeps false = tt
 
 identity-offered-keeps : (named : Bool) → Keeps Anything 1 1 (identityOffered named)
@@ -101,16 +101,16 @@ begin-method-keeps :
     (preq pres : List ℕ) (d : PairingData) (chosen : PairingMethod) → Keeps Enters 2 6 (beginMethod preq pres d chosen)
 unfolding beginMethod callOctets
 begin-method-keeps preq pres d method.OutOfBand =
-    (lit≤ tt, lit≤ tt, tt, delivered-then _ _ _ _ d (record { ofRole = tt; kept = refl }))
+    (lit≤ tt, lit≤ tt, λ e. (d, refl), delivered-then _ _ _ _ d (record { ofRole = tt; kept = refl }))
 begin-method-keeps preq pres d (method.PassKeyEntry central action.Display) = (
   lit≤ tt,
   lit≤ tt,
   tt,
   λ tk.
-      (lit≤ tt, lit≤ tt, tt, delivered-then _ _ _ _ d (record { ofRole = tt; kept = refl })),
+      (lit≤ tt, lit≤ tt, λ e. (d, refl), delivered-then _ _ _ _ d (record { ofRole = tt; kept = refl })),
 )
 begin-method-keeps preq pres d (method.PassKeyEntry central action.Input) =
-    (lit≤ tt, lit≤ tt, tt, delivered-then _ _ _ _ d (record { ofRole = tt; kept = refl }))
+    (lit≤ tt, lit≤ tt, λ e. (d, refl), delivered-then _ _ _ _ d (record { ofRole = tt; kept = refl }))
 begin-method-keeps preq pres d method.JustWorks = record { ofRole = tt; kept = refl }
 begin-method-keeps preq pres d method.NumericComparison = tt
 

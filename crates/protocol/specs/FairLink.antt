@@ -382,8 +382,8 @@ countInput aReRun n = n
 pub data Moves (shared : Shared) : Link → ℕ → ℕ → Link → Type 0 where
   noMove : {L : Link} → Moves shared L zero zero L
   move :
-    {L L₁ L₂ : Link} {k : MoveKind} {moves inputs : ℕ} →
-    Move shared L k L₁ → Moves shared L₁ moves inputs L₂ → Moves shared L (suc moves) (countInput k inputs) L₂
+      {L L₁ L₂ : Link} {k : MoveKind} {moves inputs : ℕ} →
+      Move shared L k L₁ → Moves shared L₁ moves inputs L₂ → Moves shared L (suc moves) (countInput k inputs) L₂
 
 -- a run is a list of allowed moves after which none is allowed
 pub record Run (shared : Shared) (L : Link) (moves inputs : ℕ) (L₁ : Link) : Type 0 where

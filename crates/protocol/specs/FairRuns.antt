@@ -185,17 +185,17 @@ pub record RunsEnd (s : Start) (bound : ℕ) (shared : Shared) : Type 0 where
   pub bounded : (moves inputs : ℕ) (L : Link) → Moves shared (freshLink s) moves inputs L → moves ≤ bound
   -- every list of allowed moves is the beginning of a run
   pub begins :
-    (moves inputs : ℕ) (L : Link) → Moves shared (freshLink s) moves inputs L →
-    (more moreInputs : ℕ) × (L₁ : Link) × Run shared L more moreInputs L₁
+      (moves inputs : ℕ) (L : Link) → Moves shared (freshLink s) moves inputs L →
+      (more moreInputs : ℕ) × (L₁ : Link) × Run shared L more moreInputs L₁
   -- no step on the way is refused
   pub accepted :
-    (moves inputs : ℕ) (L : Link) → Moves shared (freshLink s) moves inputs L →
-    (k : MoveKind) (L₁ : Link) (x : Move shared L k L₁) → NotRefused (outcomeOf x)
+      (moves inputs : ℕ) (L : Link) → Moves shared (freshLink s) moves inputs L →
+      (k : MoveKind) (L₁ : Link) (x : Move shared L k L₁) → NotRefused (outcomeOf x)
   -- inputs, the moves of the first kind, are at most 18 in any list of moves
   pub fewInputs : (moves inputs : ℕ) (L : Link) → Moves shared (freshLink s) moves inputs L → inputs ≤ 18
   -- what every run comes to
   pub comesTo :
-    (moves inputs : ℕ) (L : Link) → Run shared (freshLink s) moves inputs L → RunEnds (s .request) inputs L
+      (moves inputs : ℕ) (L : Link) → Run shared (freshLink s) moves inputs L → RunEnds (s .request) inputs L
 
 -- demand 3: from each start some number bounds all lists of moves, in all orders, with all host answers, passkeys and OOB
 -- data, and every run comes to what is said
