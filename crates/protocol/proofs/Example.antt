@@ -2,7 +2,7 @@
 -- With no answers the step wants the answer to 0x20; with answer 20 00 it ends. In either role, on any list that is long
 -- enough. Assumes nothing.
 use Prim.Native.Nat.{ℕ, _≤_}
-use mathlib.Core.Path.{_≡_}
+use mathlib.Core.Path.{_≡_, ap}
 use mathlib.Core.List.{List, [], _∷_}
 use lib.ListN.{length, drop}
 use native.Mathlib.Omega.{arith}
@@ -24,11 +24,12 @@ use Rattle.machine.specs.declared.PairingData.{PairingData}
 use Rattle.machine.specs.declared.Phase.the-variants as phase
 use Rattle.machine.specs.declared.Role.{Role}
 use Rattle.machine.specs.declared.Role.the-variants.{Central, Peripheral}
+use Rattle.protocol.specs.declared.Outcome.{Outcome}
 use Rattle.protocol.specs.declared.Outcome.the-variants as outcome
 use Rattle.protocol.specs.Handlers.{enter, enters}
 use Rattle.protocol.specs.LegacyCentral as central
 use Rattle.protocol.specs.LegacyPeripheral as peripheral
-use Rattle.protocol.specs.Step.{playOf, callsOctets, longest, step}
+use Rattle.protocol.specs.Step.{playOf, callsOctets, Step, longest, step}
 
 abbrev typing : ConfirmBytes → ConfirmPhaseData → PairingData → Machine
 typing b c d = record { phase = phase.WaitingPassKeyInput b; «confirm_data» = c; «pairing_data» = d }
@@ -45,28 +46,30 @@ front :
     writeAt list 0 (a ∷ b ∷ c ∷ []) ≡ a ∷ b ∷ c ∷ drop 3 list
 front list h a b c = written list 0 (a ∷ b ∷ c ∷ []) (omega arith)
 
+-- list 20 01 01 at the front, written 3
+abbrev listed : Outcome → Machine → ℕ → List ℕ → Step
+listed o m read list = record { stepped = record { outcome = o; machine = m; read = read; written = 3 }; list = list }
+
 -- wants 0x20: list 20 01 01, written 3, read 0, the machine as it was
 pub example-wants :
     (r : Role) (b : ConfirmBytes) (c : ConfirmPhaseData) (d : PairingData) (list : List ℕ) → longest ≤ length list →
     step r (typing b c d) cancel [] [] list
-    ≡ record {
-      stepped = record { outcome = outcome.Wants; machine = typing b c d; read = 0; written = 3 };
-      list = 0x20 ∷ 0x01 ∷ 0x01 ∷ drop 3 list;
-    }
+    ≡ listed outcome.Wants (typing b c d) 0 (0x20 ∷ 0x01 ∷ 0x01 ∷ drop 3 list)
 unfolding step playOf central.«handle_input» peripheral.«handle_input» central.transition peripheral.transition enter
     callsOctets allOctets callOctets verdictAt bodyAt
-example-wants Central b c d list h = rw (le-ltb (length list) longest h, front list h 0x20 0x01 0x01)
-example-wants Peripheral b c d list h = rw (le-ltb (length list) longest h, front list h 0x20 0x01 0x01)
+example-wants Central b c d list h =
+    rw (le-ltb (length list) longest h) (ap (listed outcome.Wants (typing b c d) 0) (front list h 0x20 0x01 0x01))
+example-wants Peripheral b c d list h =
+    rw (le-ltb (length list) longest h) (ap (listed outcome.Wants (typing b c d) 0) (front list h 0x20 0x01 0x01))
 
 -- with answer 20 00 it ends in Error(PasskeyEntryFailed), read 2
 pub example-ends :
     (r : Role) (b : ConfirmBytes) (c : ConfirmPhaseData) (d : PairingData) (list : List ℕ) → longest ≤ length list →
     step r (typing b c d) cancel [] (0x20 ∷ 0x00 ∷ []) list
-    ≡ record {
-      stepped = record { outcome = outcome.Ended; machine = entryFailed d; read = 2; written = 3 };
-      list = 0x20 ∷ 0x01 ∷ 0x01 ∷ drop 3 list;
-    }
+    ≡ listed outcome.Ended (entryFailed d) 2 (0x20 ∷ 0x01 ∷ 0x01 ∷ drop 3 list)
 unfolding step playOf central.«handle_input» peripheral.«handle_input» central.transition peripheral.transition enter
     callsOctets allOctets callOctets verdictAt bodyAt
-example-ends Central b c d list h = rw (le-ltb (length list) longest h, front list h 0x20 0x01 0x01)
-example-ends Peripheral b c d list h = rw (le-ltb (length list) longest h, front list h 0x20 0x01 0x01)
+example-ends Central b c d list h =
+    rw (le-ltb (length list) longest h) (ap (listed outcome.Ended (entryFailed d) 2) (front list h 0x20 0x01 0x01))
+example-ends Peripheral b c d list h =
+    rw (le-ltb (length list) longest h) (ap (listed outcome.Ended (entryFailed d) 2) (front list h 0x20 0x01 0x01))
