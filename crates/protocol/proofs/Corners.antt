@@ -11,6 +11,7 @@ use borrow.Author.Tests.{ne-eqb, lt-ltb, le-ltb}
 use Rattle.octets.specs.Octets.{fromOctets}
 use Rattle.crypto.specs.declared.crypto.LongTermKey.{LongTermKey}
 use Rattle.types.specs.Types.{commandCode}
+use Rattle.types.specs.declared.types.Command.{Command}
 use Rattle.types.specs.declared.types.Command.the-variants as command
 use Rattle.types.specs.declared.types.Reason.the-variants as reason
 use Rattle.bond.specs.declared.Error.{Error}
@@ -19,6 +20,7 @@ use Rattle.host.specs.declared.call.Question.the-variants as question
 use Rattle.machine.specs.declared.ConfirmBytes.{ConfirmBytes}
 use Rattle.machine.specs.declared.ConfirmPhaseData.{ConfirmPhaseData}
 use Rattle.machine.specs.declared.Event.the-variants as event
+use Rattle.machine.specs.declared.Input.{Input}
 use Rattle.machine.specs.declared.Input.the-variants as input
 use Rattle.machine.specs.declared.Machine.{Machine}
 use Rattle.machine.specs.declared.PairingData.{PairingData}
@@ -34,12 +36,15 @@ use Rattle.protocol.proofs.Awaited.{transitionOf, same-ways}
 abbrev standing : Phase → ConfirmPhaseData → PairingData → Machine
 standing p c d = record { phase = p; «confirm_data» = c; «pairing_data» = d }
 
+abbrev received : Command → Input
+received c = input.Command (commandCode c)
+
 module _ (c : ConfirmPhaseData) (d : PairingData) (payload : List ℕ) where
   -- ---- a Confirm of wrong length: InvalidValue in WaitingPassKeyInput, InvalidParameters in WaitingPairingConfirm
 
   pub confirm-while-typing :
       (r : Role) (b : ConfirmBytes) → (length payload ≡ 16 → ⊥) →
-      transitionOf r (standing (phase.WaitingPassKeyInput b) c d) (input.Command (commandCode command.PairingConfirm)) payload
+      transitionOf r (standing (phase.WaitingPassKeyInput b) c d) (received command.PairingConfirm) payload
       ≡ fail d InvalidValue
   unfolding central.transition peripheral.transition «store_confirm_bytes» wordIn
   confirm-while-typing Central b h = rw (ne-eqb (length payload) 16 h)
@@ -47,7 +52,7 @@ module _ (c : ConfirmPhaseData) (d : PairingData) (payload : List ℕ) where
 
   pub confirm-awaited :
       (r : Role) → (length payload ≡ 16 → ⊥) →
-      transitionOf r (standing phase.WaitingPairingConfirm c d) (input.Command (commandCode command.PairingConfirm)) payload
+      transitionOf r (standing phase.WaitingPairingConfirm c d) (received command.PairingConfirm) payload
       ≡ fail d (Security reason.InvalidParameters)
   unfolding central.transition peripheral.transition central.«handle_peer_confirm» peripheral.«handle_peer_confirm» wordIn
   confirm-awaited Central h = rw (ne-eqb (length payload) 16 h)
@@ -57,7 +62,7 @@ module _ (c : ConfirmPhaseData) (d : PairingData) (payload : List ℕ) where
 
   pub identification-short :
       (r : Role) (ltk : LongTermKey) → length payload < 10 →
-      transitionOf r (standing (phase.ReceivingKeys 1 ltk) c d) (input.Command (commandCode command.CentralIdentification)) payload
+      transitionOf r (standing (phase.ReceivingKeys 1 ltk) c d) (received command.CentralIdentification) payload
       ≡ fail d (Security reason.InvalidParameters)
   unfolding central.transition peripheral.transition central.«handle_central_identification»
       peripheral.«handle_central_identification» identificationIn
@@ -75,7 +80,7 @@ module _ (c : ConfirmPhaseData) (d : PairingData) (payload : List ℕ) where
 
   pub address-short :
       (r : Role) → length payload < 7 →
-      transitionOf r (standing phase.WaitingIdentitityAddressInformation c d) (input.Command (commandCode command.IdentityAddressInformation)) payload
+      transitionOf r (standing phase.WaitingIdentitityAddressInformation c d) (received command.IdentityAddressInformation) payload
       ≡ fail d InvalidValue
   unfolding central.transition peripheral.transition central.«handle_identity_address_information»
       peripheral.«handle_identity_address_information» addressIn
@@ -84,7 +89,7 @@ module _ (c : ConfirmPhaseData) (d : PairingData) (payload : List ℕ) where
 
   pub address-of-no-kind :
       (r : Role) → 7 ≤ length payload → 1 < getD payload 0 0 →
-      transitionOf r (standing phase.WaitingIdentitityAddressInformation c d) (input.Command (commandCode command.IdentityAddressInformation)) payload
+      transitionOf r (standing phase.WaitingIdentitityAddressInformation c d) (received command.IdentityAddressInformation) payload
       ≡ fail d InvalidValue
   unfolding central.transition peripheral.transition central.«handle_identity_address_information»
       peripheral.«handle_identity_address_information» addressIn
@@ -96,7 +101,8 @@ module _ (c : ConfirmPhaseData) (d : PairingData) (payload : List ℕ) where
   pub request-of-wrong-length :
       (length payload ≡ 6 → ⊥) →
       peripheral.«handle_pairing_request» d payload
-      ≡ _>>=_ (asked question.FindBond) (λ found. _>>_ (peripheral.bondLost found) (fail d (Security reason.InvalidParameters)))
+      ≡ _>>=_ (asked question.FindBond)
+      (λ found. _>>_ (peripheral.bondLost found) (fail d (Security reason.InvalidParameters)))
   unfolding peripheral.«handle_pairing_request» featuresIn
   request-of-wrong-length h = rw (ne-eqb (length payload) 6 h)
 
@@ -168,7 +174,7 @@ link-not-encrypted Central (phase.Error e) c d payload = refl
 
 pub failed-empty :
     (r : Role) (p : Phase) (c : ConfirmPhaseData) (d : PairingData) →
-    transitionOf r (standing p c d) (input.Command (commandCode command.PairingFailed)) []
+    transitionOf r (standing p c d) (received command.PairingFailed) []
     ≡ fail d (Security reason.UnspecifiedReason)
 unfolding central.transition peripheral.transition otherInput reasonIn
 failed-empty Central phase.WaitingPairingRequest c d = refl

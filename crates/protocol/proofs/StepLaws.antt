@@ -272,9 +272,11 @@ module _ (r : Role) (m : Machine) (i : Input) (payload answers list : List ℕ) 
       let q = wants-play r m i payload answers list h in
       let end = wanting-last replyAt reads answers p 0 (q .0) .5 in (
         subst (λ (n : ℕ). play replyAt (answers ++ more) p 0 .ending
-            ≡ play replyAt (answers ++ more) (rest replyAt answers p 0) n .ending) end (again-ending replyAt reads answers more p 0),
+            ≡ play replyAt (answers ++ more) (rest replyAt answers p 0) n .ending) end
+            (again-ending replyAt reads answers more p 0),
         subst (λ (n : ℕ). play replyAt (answers ++ more) p 0 .place
-            ≡ play replyAt (answers ++ more) (rest replyAt answers p 0) n .place) end (again-place replyAt reads answers more p 0),
+            ≡ play replyAt (answers ++ more) (rest replyAt answers p 0) n .place) end
+            (again-place replyAt reads answers more p 0),
         subst (λ (n : ℕ). play replyAt (answers ++ more) p 0 .calls
             ≡ answered replyAt answers p 0 ++ play replyAt (answers ++ more) (rest replyAt answers p 0) n .calls) end
             (again-calls replyAt reads answers more p 0),

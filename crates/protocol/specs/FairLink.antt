@@ -354,7 +354,8 @@ pub data Move (shared : Shared) (L : Link) : MoveKind → Link → Type 0 where
       endOf r L .openStep ≡ none → endOf r L .due ≡ earlier ++ (e ∷ later) → MayTake L r e →
       FairHost shared r L (anEvent e) answers →
       Move shared L anInput
-      (linkAfter shared r L (anEvent e) answers (endOf r L .queue) (earlier ++ later) (callsAt shared r L (anEvent e) answers))
+      (linkAfter shared r L (anEvent e) answers (endOf r L .queue) (earlier ++ later)
+      (callsAt shared r L (anEvent e) answers))
   -- an open step is run again on the machine and input it had, its host answers kept and at least one added; a call
   -- counts once, when first listed
   runAgain :
@@ -368,7 +369,8 @@ pub data Move (shared : Shared) (L : Link) : MoveKind → Link → Type 0 where
 -- the outcome of its step
 abbrev pub outcomeOf : {shared : Shared} {L L₁ : Link} {k : MoveKind} → Move shared L k L₁ → Outcome
 outcomeOf {shared} {L} (takePacket r p queue answers o q d f) = stepAt shared r L (aPacket p) answers .stepped .outcome
-outcomeOf {shared} {L} (takeEvent r e earlier later answers o q d f) = stepAt shared r L (anEvent e) answers .stepped .outcome
+outcomeOf {shared} {L} (takeEvent r e earlier later answers o q d f) =
+    stepAt shared r L (anEvent e) answers .stepped .outcome
 outcomeOf {shared} {L} (runAgain r g kept x added o f) = stepAt shared r L g (kept ++ (x ∷ added)) .stepped .outcome
 
 -- ---- Lists of moves, and runs

@@ -58,7 +58,11 @@ confirmValue c d r =
 
 -- ---- Transition helpers
 
--- the central's identity key is awaited where the request names it
+-- whether the request names the central's identity key
+abbrev pub identityNamed : PairingData → Bool
+identityNamed d = namesIdentityKey (d .«peer_features» .«initiator_key_distribution»)
+
+-- it is awaited where it is named
 unfoldable pub awaitIdentityOrSucceed : PairingData → Bool → Handler Machine
 awaitIdentityOrSucceed d true = give (enters phase.WaitingIdentitityInformation noConfirmData d)
 awaitIdentityOrSucceed d false = give (enters phase.Success noConfirmData d)
@@ -66,7 +70,7 @@ awaitIdentityOrSucceed d false = give (enters phase.Success noConfirmData d)
 -- .. and before it the encryption key
 unfoldable pub awaitKeys : PairingData → Bool → Handler Machine
 awaitKeys d true = give (enters (phase.ReceivingKeys 0 (record { 0 = zeroWord })) noConfirmData d)
-awaitKeys d false = awaitIdentityOrSucceed d (namesIdentityKey (d .«peer_features» .«initiator_key_distribution»))
+awaitKeys d false = awaitIdentityOrSucceed d (identityNamed d)
 
 -- its own keys are sent first, and whole; the bond keeps the LTK cut, EDIV and Rand
 unfoldable pub «send_all_keys» : PairingData → Handler Machine
@@ -78,7 +82,7 @@ unfoldable pub «send_all_keys» : PairingData → Handler Machine
 
 unfoldable pub sendKeysOrAwaitIdentity : PairingData → Bool → Handler Machine
 sendKeysOrAwaitIdentity d true = «send_all_keys» d
-sendKeysOrAwaitIdentity d false = awaitIdentityOrSucceed d (namesIdentityKey (d .«peer_features» .«initiator_key_distribution»))
+sendKeysOrAwaitIdentity d false = awaitIdentityOrSucceed d (identityNamed d)
 
 -- `beforeRequest` where the previous state is WaitingPairingRequest: there an earlier bond encrypts the link
 unfoldable pub «handle_link_encrypted_success» : PairingData → (beforeRequest : Bool) → Handler Machine
@@ -217,7 +221,7 @@ unfoldable pub «handle_pairing_random» : ConfirmPhaseData → PairingData → 
 unfoldable pub «handle_central_identification» : PairingData → List ℕ → Handler Machine
 «handle_central_identification» d payload = do
   identification ← orFail d (Security reason.InvalidParameters) (identificationIn payload)
-  awaitIdentityOrSucceed d (namesIdentityKey (d .«peer_features» .«initiator_key_distribution»))
+  awaitIdentityOrSucceed d (identityNamed d)
 
 unfoldable pub «handle_identity_address_information» : PairingData → List ℕ → Handler Machine
 «handle_identity_address_information» d payload = do
