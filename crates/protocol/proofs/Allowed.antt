@@ -1,7 +1,8 @@
 -- What the fair link allows, so that nothing is true of fair runs for want of them: there are fair starts at the ends of
--- every range, hosts that answer nothing, free answers, and packets that come while a passkey is typed. Assumes nothing.
+-- every range, hosts that answer nothing, free answers, packets that come while a passkey is typed or OOB data is due, and
+-- events that are taken as soon as they are due. Assumes nothing.
 use mathlib.Core.Path.{_≡_, refl}
-use mathlib.Core.Bool.{Bool}
+use mathlib.Core.Bool.{Bool, true}
 use mathlib.Core.List.{List, [], _∷_}
 use mathlib.Core.Option.{none}
 use Prim.Native.Nat.{ℕ}
@@ -20,10 +21,11 @@ use Rattle.answer.specs.declared.BondResult.the-variants as bond-result
 use Rattle.answer.specs.declared.OptionBondResult.the-variants as option-result
 use Rattle.machine.specs.declared.Machine.{Machine}
 use Rattle.machine.specs.declared.Role.{Role}
+use Rattle.machine.specs.declared.Role.the-variants.{Central, Peripheral}
 use Rattle.protocol.specs.Program.{ret, ask}
 use Rattle.protocol.specs.Ops.{delivered, aVerdict, aFlag, anIrk, anAddress, aNonce, aPassKey, anLtk, anEdiv, aRand, aBond, anOptionBond, Program}
 use Rattle.protocol.specs.Step.{handleInput}
-use Rattle.protocol.specs.FairLink.{Start, FairStart, Shared, FairReply, FairAnswers, QueuedPacket, passKey, Given, aPacket, inputOf, payloadOf, Link, endOf, machineAt, FairHost, anInput, Move, takePacket}
+use Rattle.protocol.specs.FairLink.{Start, FairStart, Shared, FairReply, FairAnswers, QueuedPacket, Due, passKey, oobData, encryptionOn, Given, aPacket, anEvent, inputOf, payloadOf, Link, endOf, machineAt, FairHost, anInput, MayTake, Move, takePacket, takeEvent}
 use Rattle.protocol.proofs.Replies.{reply-at-end}
 
 -- ---- starts
@@ -99,10 +101,32 @@ free shared =
 
 -- ---- moves
 
--- a packet may come while a passkey is typed
-pub packet-while-typing :
-    (shared : Shared) (r : Role) (L : Link) (p : QueuedPacket) (queue : List QueuedPacket) →
-    endOf r L .openStep ≡ none → endOf r L .queue ≡ p ∷ queue → endOf r L .due ≡ passKey ∷ [] →
-    (L₁ : Link) × Move shared L anInput L₁
-packet-while-typing shared r L p queue o q d =
-    (_, takePacket r p queue [] o q (rw d refl) (no-answers shared r L (aPacket p)))
+module _ (shared : Shared) (r : Role) (L : Link) where
+  -- a packet may come while a passkey is typed, or OOB data is due
+  pub packet-while-typing :
+      (p : QueuedPacket) (queue : List QueuedPacket) →
+      endOf r L .openStep ≡ none → endOf r L .queue ≡ p ∷ queue → endOf r L .due ≡ passKey ∷ [] →
+      (L₁ : Link) × Move shared L anInput L₁
+  packet-while-typing p queue o q d =
+      (_, takePacket r p queue [] o q (rw d refl) (no-answers shared r L (aPacket p)))
+
+  pub packet-before-oob :
+      (p : QueuedPacket) (queue : List QueuedPacket) →
+      endOf r L .openStep ≡ none → endOf r L .queue ≡ p ∷ queue → endOf r L .due ≡ oobData ∷ [] →
+      (L₁ : Link) × Move shared L anInput L₁
+  packet-before-oob p queue o q d =
+      (_, takePacket r p queue [] o q (rw d refl) (no-answers shared r L (aPacket p)))
+
+-- an event that is due may be taken, but for the terminal's OOB data before the head has had its own
+may-take :
+    (L : Link) (r : Role) (e : Due) → (r ≡ Central → e ≡ oobData → L .head .hadOob ≡ true) → MayTake L r e
+may-take L Central passKey h = tt
+may-take L Central oobData h = h refl refl
+may-take L Central encryptionOn h = tt
+may-take L Peripheral e h = tt
+
+pub event-taken :
+    (shared : Shared) (r : Role) (L : Link) (e : Due) → endOf r L .openStep ≡ none → endOf r L .due ≡ e ∷ [] →
+    (r ≡ Central → e ≡ oobData → L .head .hadOob ≡ true) → (L₁ : Link) × Move shared L anInput L₁
+event-taken shared r L e o d h =
+    (_, takeEvent r e [] [] [] o d (may-take L r e h) (no-answers shared r L (anEvent e)))
