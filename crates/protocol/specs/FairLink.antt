@@ -222,6 +222,11 @@ freshLink s = record { terminal = freshEnd (freshTerminal s) []; head = freshEnd
 
 -- ---- What a call does, when it is first listed
 
+-- what each call gives, in their order
+abbrev pub ofAll : {X : Type 0} → (Call → List X) → List Call → List X
+ofAll f [] = []
+ofAll f (c ∷ cs) = f c ++ ofAll f cs
+
 -- a packet joins the other end's queue
 abbrev pub sentBy : Call → List QueuedPacket
 sentBy (call.SendPacket p) = record { code = commandCode (packetCommand p); payload = packetBody p } ∷ []
@@ -231,10 +236,6 @@ sentBy (call.Draw d) = []
 sentBy (call.EnableEncryption k l n) = []
 sentBy call.EnableBondedEncryption = []
 sentBy (call.UpdateBondInformation b) = []
-
-abbrev pub sentByAll : List Call → List QueuedPacket
-sentByAll [] = []
-sentByAll (c ∷ cs) = sentBy c ++ sentByAll cs
 
 -- whether a call of this kind is among those listed
 abbrev pub hasListed : ℕ → List Call → Bool
@@ -305,7 +306,7 @@ abbrev pub receives : List Call → End → End
 receives new e =
     record {
       machine = e .machine;
-      queue = e .queue ++ sentByAll new;
+      queue = e .queue ++ ofAll sentBy new;
       due = e .due;
       openStep = e .openStep;
       calls = e .calls;

@@ -4,7 +4,7 @@
 use Prim.Native.Nat.{ℕ, _+_, _*_, _≤_}
 use mathlib.Core.Path.{_≡_}
 use mathlib.Core.Bool.{Bool, true, false, cond, not, _&&_}
-use mathlib.Core.List.{List, [], _∷_, _++_}
+use mathlib.Core.List.{List, [], _∷_}
 use lib.ListN.{length, replicate}
 use Rattle.octets.specs.Octets.{wordOf}
 use Rattle.crypto.specs.Crypto.{maskedOf}
@@ -33,7 +33,7 @@ use Rattle.protocol.specs.declared.Outcome.the-variants as outcome
 use Rattle.protocol.specs.declared.Stepped.{Stepped}
 use Rattle.protocol.specs.Handlers.{namesEncryptionKey, namesIdentityKey, smaller}
 use Rattle.protocol.specs.Step.{longest, step}
-use Rattle.protocol.specs.FairLink.{Start, FairStart, Shared, Link, freshLink, MoveKind, Move, outcomeOf, Moves, Run, Idle}
+use Rattle.protocol.specs.FairLink.{Start, FairStart, Shared, Link, freshLink, ofAll, MoveKind, Move, outcomeOf, Moves, Run, Idle}
 
 -- ---- entries: 1 where the method has one end type, 2 where it has both type or is OOB, else 0
 
@@ -84,8 +84,7 @@ responseIn call.EnableBondedEncryption = []
 responseIn (call.UpdateBondInformation b) = []
 
 abbrev pub responsesIn : List Call → List PairingFeatures
-responsesIn [] = []
-responsesIn (c ∷ cs) = responseIn c ++ responsesIn cs
+responsesIn cs = ofAll responseIn cs
 
 -- ---- calling for encryption is call 0x3A, key and level being those of its body
 
@@ -103,8 +102,7 @@ encryptionIn call.EnableBondedEncryption = []
 encryptionIn (call.UpdateBondInformation b) = []
 
 abbrev pub encryptionsIn : List Call → List Encryption
-encryptionsIn [] = []
-encryptionsIn (c ∷ cs) = encryptionIn c ++ encryptionsIn cs
+encryptionsIn cs = ofAll encryptionIn cs
 
 -- ---- how the ends stand
 

@@ -22,11 +22,12 @@ use Rattle.types.specs.declared.types.Reason.{Reason}
 use Rattle.types.specs.declared.types.Reason.the-variants as reason
 use Rattle.util.specs.Method.{securityLevel}
 use Rattle.util.specs.declared.util.PairingMethod.{PairingMethod}
-use Rattle.bond.specs.Bond.{addressOf}
+use Rattle.bond.specs.Bond.{addressOf, addressType}
 use Rattle.bond.specs.declared.Address.{Address}
 use Rattle.bond.specs.declared.BondInformation.{BondInformation}
 use Rattle.bond.specs.declared.Error.{Error}
 use Rattle.bond.specs.declared.Error.the-variants.{Security, InvalidState, InvalidValue}
+use Rattle.bond.specs.declared.Identity.{Identity}
 use Rattle.bond.specs.declared.OptionBond.{OptionBond}
 use Rattle.bond.specs.declared.OptionBond.the-variants as option
 use Rattle.host.specs.declared.call.Packet.{Packet}
@@ -260,28 +261,24 @@ withKeys ltk ediv rand d =
       identity = b .identity;
     }) d
 
-unfoldable pub withIrk : IdentityResolvingKey → PairingData → PairingData
-withIrk k d =
+-- the peer's identity in the bond, where there is one
+abbrev pub onIdentityOf : (Identity → Identity) → PairingData → PairingData
+onIdentityOf f d =
     onBondOf (λ b. record {
       ltk = b .ltk;
       ediv = b .ediv;
       rand = b .rand;
       «is_bonded» = b .«is_bonded»;
       «security_level» = b .«security_level»;
-      identity = record { irk = k; addr = b .identity .addr };
+      identity = f (b .identity);
     }) d
 
--- in the pairing data, and in the bond where there is one
+unfoldable pub withIrk : IdentityResolvingKey → PairingData → PairingData
+withIrk k d = onIdentityOf (λ i. record { irk = k; addr = i .addr }) d
+
+-- in the pairing data too
 unfoldable pub withIdentityAddress : Address → PairingData → PairingData
-withIdentityAddress a d =
-    onBondOf (λ b. record {
-      ltk = b .ltk;
-      ediv = b .ediv;
-      rand = b .rand;
-      «is_bonded» = b .«is_bonded»;
-      «security_level» = b .«security_level»;
-      identity = record { irk = b .identity .irk; addr = a };
-    }) (withPeerAddress a d)
+withIdentityAddress a d = onIdentityOf (λ i. record { irk = i .irk; addr = a }) (withPeerAddress a d)
 
 -- ---- inputs: what a state does with the one that it awaits, and with any other
 
@@ -342,6 +339,10 @@ otherInput m payload (input.Event (event.PassKeyInput n)) = give m
 otherInput m payload (input.Event (event.OobDataReceived w)) = fail (m .«pairing_data») InvalidState
 
 -- ---- parts that both files have in the same words
+
+-- the octets of an address are as on the air, so `addr_bytes_mso` is not needed
+abbrev pub «addr_type_flag» : Address → ℕ
+«addr_type_flag» a = addressType a
 
 -- entering a state: PairingFailed in Error; in Success, where there is a bond, its update where both want to bond, then
 -- PairingComplete. Failures do not matter

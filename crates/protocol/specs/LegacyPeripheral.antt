@@ -1,7 +1,7 @@
 -- legacy_peripheral.rs, the responder: each of its functions as a program of host calls, under its name, in «» where the
 -- name has several words. What a function calls stands before it, so the FSM core comes last; else the order is the
--- file's. In the same words in both files, and so in Handlers: `enter`, `store_confirm_bytes`,
--- `handle_encryption_information`, `handle_identity_information`. With the machine stand `resultOf`, `isEncrypted` and
+-- file's. In the same words in both files, and so in Handlers: `addr_type_flag`, `enter`,
+-- `store_confirm_bytes`, `handle_encryption_information`, `handle_identity_information`. With the machine stand `resultOf`, `isEncrypted` and
 -- `newMachine` (`new`); `mark_timeout` is left out with the timer. Assumes nothing.
 use Prim.Native.Nat.{ℕ}
 use mathlib.Core.Bool.{Bool, true, false, not}
@@ -25,8 +25,7 @@ use Rattle.util.specs.Method.{legacyMethod}
 use Rattle.util.specs.declared.util.PairingMethod.{PairingMethod}
 use Rattle.util.specs.declared.util.PairingMethod.the-variants as method
 use Rattle.util.specs.declared.util.PassKeyEntryAction.the-variants as action
-use Rattle.bond.specs.Bond.{addressType, bdAddrOctets}
-use Rattle.bond.specs.declared.Address.{Address}
+use Rattle.bond.specs.Bond.{bdAddrOctets}
 use Rattle.bond.specs.declared.Error.the-variants.{Security, InvalidValue}
 use Rattle.host.specs.declared.call.ConnectionEvent.the-variants as notice
 use Rattle.host.specs.declared.call.Draw.the-variants as draw
@@ -43,11 +42,7 @@ use Rattle.machine.specs.declared.Phase.{Phase}
 use Rattle.machine.specs.declared.Phase.the-variants as phase
 use Rattle.protocol.specs.Program.{bind}
 use Rattle.protocol.specs.Ops.{Program}
-use Rattle.protocol.specs.Handlers.{Handler, _>>=_, _>>_, give, fail, orFail, sendPacket, sendEvent, attemptEvent, asked, drawn, bondedEncryption, wordIn, featuresIn, identificationIn, addressIn, commandOctets, namesEncryptionKey, namesIdentityKey, enters, confirmData, withTk, withNonce, passKeyTk, withFeatures, withBond, withKeys, withIdentityAddress, onCommand, onLinkEncrypted, onPassKeyInput, onPassKeyCancel, onOobData, onReceivingKeys, otherInput, entered, «store_confirm_bytes», sendEncryptionKey, sendIdentityKey, enableEncryption, «handle_encryption_information», «handle_identity_information»}
-
--- `addr_type_flag`; the octets of an address are as on the air, so `addr_bytes_mso` is not needed
-abbrev pub «addr_type_flag» : Address → ℕ
-«addr_type_flag» a = addressType a
+use Rattle.protocol.specs.Handlers.{«addr_type_flag», Handler, _>>=_, _>>_, give, fail, orFail, sendPacket, sendEvent, attemptEvent, asked, drawn, bondedEncryption, wordIn, featuresIn, identificationIn, addressIn, commandOctets, namesEncryptionKey, namesIdentityKey, enters, confirmData, withTk, withNonce, passKeyTk, withFeatures, withBond, withKeys, withIdentityAddress, onCommand, onLinkEncrypted, onPassKeyInput, onPassKeyCancel, onOobData, onReceivingKeys, otherInput, entered, «store_confirm_bytes», sendEncryptionKey, sendIdentityKey, enableEncryption, «handle_encryption_information», «handle_identity_information»}
 
 -- c1 of a nonce; ia is the initiator's address, here the peer's
 unfoldable pub confirmValue : ConfirmPhaseData → PairingData → Nonce → Confirm
@@ -171,9 +166,6 @@ responseFeatures local peer offered bonding available =
           responderKeys (local .«responder_key_distribution») (peer .«responder_key_distribution») offered;
     }
 
-abbrev pub respondTo : PairingData → PairingFeatures → PairingFeatures → PairingData
-respondTo d peer local = withFeatures local peer (legacyMethod peer local) d
-
 -- the method that was chosen begins
 unfoldable pub beginMethod : List ℕ → List ℕ → PairingData → PairingMethod → Handler Machine
 beginMethod preq pres d method.OutOfBand = do
@@ -198,7 +190,7 @@ unfoldable pub «handle_pairing_request» : PairingData → List ℕ → Handler
   bonding ← asked question.BondingFlag
   available ← asked question.OobAvailable
   let local = responseFeatures (d .«local_features») peer offered bonding available
-  let d₁ = respondTo d peer local
+  let d₁ = withFeatures local peer (legacyMethod peer local) d
   sendPacket d₁ (packet.PairingResponse local)
   let preq = commandOctets command.PairingRequest payload
   let pres = commandOctets command.PairingResponse (featureOctets local)
