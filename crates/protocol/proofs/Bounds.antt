@@ -30,6 +30,7 @@ use Rattle.protocol.specs.Program.{ret, ask, bind, Taken, got, wants, re
 use Rattle.protocol.specs.Ops.{Delivery, delivered, undelivered, Reply, replyAt, Program}
 use Rattle.protocol.specs.Handlers.{enters, Try, ok, err, Handler, onTry, orFail, onDelivery, onAddress, onBond, onOptionBond}
 use Rattle.protocol.specs.Step.{callsOctets}
+use Rattle.protocol.proofs.Programs.{OfEnding}
 
 -- ---- bounds of a program
 
@@ -76,34 +77,64 @@ within-bind B D P Q (ask c k) f n o n₁ o₁ b h g w v =
           (omega (arith, w .0)) (omega (arith, w .1)) (v a h₁)),
     )
 
+-- ---- what a failure to deliver does
+
+-- whether it is delivered does not matter
+abbrev pub Alike : {A : Type 0} → (Delivery → Program A) → Type 0
+Alike k = (x y : Delivery) → k x ≡ k y
+
+-- F holds of packets, and of the events that the pairing needs; of BondLost, PairingFailed, PairingComplete and a bond
+-- update a failure does not matter
+abbrev pub OnEvent : {A : Type 0} → ((Delivery → Program A) → Type 0) → ConnectionEvent → (Delivery → Program A) → Type 0
+OnEvent F (notice.PairingFailed e) k = Alike k
+OnEvent F (notice.PairingComplete l b) k = Alike k
+OnEvent F (notice.PassKeyDisplay n) k = F k
+OnEvent F notice.PassKeyInput k = F k
+OnEvent F notice.BondLost k = Alike k
+OnEvent F notice.OobRequest k = F k
+
+abbrev pub OnFailure : {A : Type 0} → ((Delivery → Program A) → Type 0) → OfCalls A
+OnFailure F (call.SendPacket p) k = F k
+OnFailure F (call.SendConnectionEvent e) k = OnEvent F e k
+OnFailure F (call.Ask q) k = Unit {0}
+OnFailure F (call.Draw d) k = Unit {0}
+OnFailure F (call.EnableEncryption w l n) k = Unit {0}
+OnFailure F call.EnableBondedEncryption k = Unit {0}
+OnFailure F (call.UpdateBondInformation b) k = Alike k
+
+-- .. and what follows it: F of the first program is G of the whole
+module _
+    {A C : Type 0} (F : (Delivery → Program A) → Type 0) (G : (Delivery → Program C) → Type 0) (f : A → Program C)
+    (then : (k : Delivery → Program A) → F k → G (λ x. bind (k x) f)) where
+  alike-bind : (k : Delivery → Program A) → Alike k → Alike (λ x. bind (k x) f)
+  alike-bind k b = λ x y. ap (λ (q : Program A). bind q f) (b x y)
+
+  event-bind : (e : ConnectionEvent) (k : Delivery → Program A) → OnEvent F e k → OnEvent G e (λ x. bind (k x) f)
+  event-bind (notice.PairingFailed e) k b = alike-bind k b
+  event-bind (notice.PairingComplete l o) k b = alike-bind k b
+  event-bind (notice.PassKeyDisplay n) k b = then k b
+  event-bind notice.PassKeyInput k b = then k b
+  event-bind notice.BondLost k b = alike-bind k b
+  event-bind notice.OobRequest k b = then k b
+
+  pub failure-bind :
+      (c : Call) (k : Reply c → Program A) → OnFailure F c k → OnFailure G c (λ x. bind (k x) f)
+  failure-bind (call.SendPacket p) k b = then k b
+  failure-bind (call.SendConnectionEvent e) k b = event-bind e k b
+  failure-bind (call.Ask q) k b = tt
+  failure-bind (call.Draw d) k b = tt
+  failure-bind (call.EnableEncryption w l n) k b = tt
+  failure-bind call.EnableBondedEncryption k b = tt
+  failure-bind (call.UpdateBondInformation w) k b = alike-bind k b
+
 -- ---- bounds of a handler
 
 -- an undelivered one fails the handler at once, with its error
 abbrev pub Fails : {A : Type 0} → (Delivery → Handler A) → Type 0
 Fails k = (e : Error) → (d : PairingData) × (k (undelivered e) ≡ ret (err d e))
 
--- whether it is delivered does not matter
-abbrev pub Alike : {A : Type 0} → (Delivery → Program A) → Type 0
-Alike k = (x y : Delivery) → k x ≡ k y
-
--- packets, and the events that the pairing needs, fail the handler; of BondLost, PairingFailed, PairingComplete and a bond
--- update a failure does not matter
-abbrev pub BreaksEvent : {A : Type 0} → ConnectionEvent → (Delivery → Handler A) → Type 0
-BreaksEvent (notice.PairingFailed e) k = Alike k
-BreaksEvent (notice.PairingComplete l b) k = Alike k
-BreaksEvent (notice.PassKeyDisplay n) k = Fails k
-BreaksEvent notice.PassKeyInput k = Fails k
-BreaksEvent notice.BondLost k = Alike k
-BreaksEvent notice.OobRequest k = Fails k
-
 abbrev pub Breaks : {A : Type 0} → OfCalls (Try A)
-Breaks (call.SendPacket p) k = Fails k
-Breaks (call.SendConnectionEvent e) k = BreaksEvent e k
-Breaks (call.Ask q) k = Unit {0}
-Breaks (call.Draw d) k = Unit {0}
-Breaks (call.EnableEncryption w l n) k = Unit {0}
-Breaks call.EnableBondedEncryption k = Unit {0}
-Breaks (call.UpdateBondInformation b) k = Alike k
+Breaks c k = OnFailure Fails c k
 
 -- P holds of a result; nothing is asked of a failure
 abbrev pub OfResult : {A : Type 0} → (A → Type 0) → Try A → Type 0
@@ -118,32 +149,11 @@ Keeps P n o p = Within Breaks (OfResult P) n o p
 abbrev pub Anything : {A : Type 0} → A → Type 0
 Anything a = Unit {0}
 
-fails-then : {A C : Type 0} (f : A → Handler C) (k : Delivery → Handler A) → Fails k → Fails (λ x. bind (k x) (onTry f))
-fails-then f k b = λ e. (b e .0, ap (λ (q : Handler _). bind q (onTry f)) (b e .1))
-
-pub alike-then : {A C : Type 0} (f : A → Program C) (k : Delivery → Program A) → Alike k → Alike (λ x. bind (k x) f)
-alike-then f k b = λ x y. ap (λ (q : Program _). bind q f) (b x y)
-
-event-then :
-    {A C : Type 0} (f : A → Handler C) (e : ConnectionEvent) (k : Delivery → Handler A) → BreaksEvent e k →
-    BreaksEvent e (λ x. bind (k x) (onTry f))
-event-then f (notice.PairingFailed e) k b = alike-then (onTry f) k b
-event-then f (notice.PairingComplete l o) k b = alike-then (onTry f) k b
-event-then f (notice.PassKeyDisplay n) k b = fails-then f k b
-event-then f notice.PassKeyInput k b = fails-then f k b
-event-then f notice.BondLost k b = alike-then (onTry f) k b
-event-then f notice.OobRequest k b = fails-then f k b
-
 breaks-then :
     {A C : Type 0} (f : A → Handler C) (c : Call) (k : Reply c → Handler A) → Breaks c k →
     Breaks c (λ x. bind (k x) (onTry f))
-breaks-then f (call.SendPacket p) k b = fails-then f k b
-breaks-then f (call.SendConnectionEvent e) k b = event-then f e k b
-breaks-then f (call.Ask q) k b = tt
-breaks-then f (call.Draw d) k b = tt
-breaks-then f (call.EnableEncryption w l n) k b = tt
-breaks-then f call.EnableBondedEncryption k b = tt
-breaks-then f (call.UpdateBondInformation w) k b = alike-then (onTry f) k b
+breaks-then f =
+    failure-bind Fails Fails (onTry f) (λ k b e. (b e .0, ap (λ (q : Handler _). bind q (onTry f)) (b e .1)))
 
 result-more : {A : Type 0} (P Q : A → Type 0) → ((a : A) → P a → Q a) → (x : Try A) → OfResult P x → OfResult Q x
 result-more P Q f (ok a) h = f a h
@@ -222,22 +232,8 @@ EndsIn k =
     × (k (undelivered e)
     ≡ ask (call.SendConnectionEvent (notice.PairingFailed e)) (λ r. ret (enters (phase.Error e) noConfirmData d)))
 
-abbrev pub BrokenEvent : ConnectionEvent → (Delivery → Program Machine) → Type 0
-BrokenEvent (notice.PairingFailed e) k = Alike k
-BrokenEvent (notice.PairingComplete l b) k = Alike k
-BrokenEvent (notice.PassKeyDisplay n) k = EndsIn k
-BrokenEvent notice.PassKeyInput k = EndsIn k
-BrokenEvent notice.BondLost k = Alike k
-BrokenEvent notice.OobRequest k = EndsIn k
-
 abbrev pub Broken : OfCalls Machine
-Broken (call.SendPacket p) k = EndsIn k
-Broken (call.SendConnectionEvent e) k = BrokenEvent e k
-Broken (call.Ask q) k = Unit {0}
-Broken (call.Draw d) k = Unit {0}
-Broken (call.EnableEncryption w l n) k = Unit {0}
-Broken call.EnableBondedEncryption k = Unit {0}
-Broken (call.UpdateBondInformation b) k = Alike k
+Broken c k = OnFailure EndsIn c k
 
 -- .. of every call of a step
 abbrev pub FailsOnce : Program Machine → Type 0
@@ -250,12 +246,6 @@ within-fails P (ask c k) n o w =
     (w .2, λ x. within-fails P (k x) (n - 1) (o - length (callOctets c)) (w .3 x))
 
 -- ---- bounds of a play
-
--- P holds of what a play that ended gives
-abbrev pub OfEnding : {A : Type 0} → (A → Type 0) → Ending A → Type 0
-OfEnding P (ended a) = P a
-OfEnding P wanting = Unit {0}
-OfEnding P refusing = Unit {0}
 
 pub record PlaysWithin {A : Type 0} (P : A → Type 0) (n o : ℕ) (x : Played Call A) : Type 0 where
   pub most : length (x .calls) ≤ n

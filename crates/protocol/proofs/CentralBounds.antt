@@ -28,7 +28,7 @@ use Rattle.machine.specs.declared.Role.the-variants.{Central}
 use Rattle.protocol.specs.Handlers.{wordIn, featuresIn, identificationIn, addressIn, confirmData, passKeyTk, «store_confirm_bytes», sendEncryptionKey, sendIdentityKey, «handle_encryption_information», «handle_identity_information»}
 use Rattle.protocol.specs.LegacyCentral.{«send_all_keys», awaitIdentityOrSend, awaitKeys, awaitKeysOrSucceed, «handle_link_encrypted_success», «send_mconfirm», «send_mrand», answerConfirm, «handle_peer_confirm», afterMconfirm, «handle_pass_key_input», beginConfirm, beginMethod, «handle_pairing_response», confirmValue, onSrand, «handle_pairing_random», «handle_central_identification», sendKeysOrSucceed, «handle_identity_address_information», linkEncrypted, transitionFrom, transition}
 use Rattle.protocol.proofs.Bounds.{Keeps, Anything, keeps-more, keeps-then, or-fail-then, delivered-then, delivered-last}
-use Rattle.protocol.proofs.HandlerBounds.{store-confirm-bytes-keeps, send-encryption-key-keeps, send-identity-key-keeps, enable-encryption-keeps, encryption-information-keeps, identity-information-keeps, TransitionKeeps, moves-by, other-input-keeps, on-command, on-link-encrypted, on-pass-key-input, on-pass-key-cancel, on-oob-data, on-receiving-keys}
+use Rattle.protocol.proofs.HandlerBounds.{store-confirm-bytes-keeps, send-encryption-key-keeps, send-identity-key-keeps, enable-encryption-keeps, encryption-information-keeps, identity-information-keeps, TransitionKeeps, keeps-by, other-input-keeps, on-command, on-link-encrypted, on-pass-key-input, on-pass-key-cancel, on-oob-data, on-receiving-keys}
 
 -- a state that a handler of this role enters
 abbrev Enters : Machine → Type 0
@@ -42,23 +42,23 @@ send-all-keys-keeps d =
     (λ d₁ u. keeps-then (sendIdentityKey d₁ _) _ Anything _ 4 27 4 27 (lit≤ tt) (lit≤ tt) (send-identity-key-keeps d₁ _)
     (λ v w. record { ofRole = tt; kept = refl }))
 
-identity-or-keys-keeps : (d : PairingData) (b : Bool) → Keeps Enters 9 58 (awaitIdentityOrSend d b)
+await-identity-or-send-keeps : (d : PairingData) (b : Bool) → Keeps Enters 9 58 (awaitIdentityOrSend d b)
 unfolding awaitIdentityOrSend
-identity-or-keys-keeps d true = record { ofRole = tt; kept = refl }
-identity-or-keys-keeps d false = send-all-keys-keeps d
+await-identity-or-send-keeps d true = record { ofRole = tt; kept = refl }
+await-identity-or-send-keeps d false = send-all-keys-keeps d
 
-receive-keys-keeps : (d : PairingData) (b : Bool) → Keeps Enters 9 58 (awaitKeys d b)
+await-keys-keeps : (d : PairingData) (b : Bool) → Keeps Enters 9 58 (awaitKeys d b)
 unfolding awaitKeys
-receive-keys-keeps d true = record { ofRole = tt; kept = refl }
-receive-keys-keeps d false = identity-or-keys-keeps d _
+await-keys-keeps d true = record { ofRole = tt; kept = refl }
+await-keys-keeps d false = await-identity-or-send-keeps d _
 
-keys-or-success-keeps : (d : PairingData) (b : Bool) → Keeps Enters 9 58 (awaitKeysOrSucceed d b)
-keys-or-success-keeps d true = receive-keys-keeps d _
-keys-or-success-keeps d false = record { ofRole = tt; kept = refl }
+await-keys-or-succeed-keeps : (d : PairingData) (b : Bool) → Keeps Enters 9 58 (awaitKeysOrSucceed d b)
+await-keys-or-succeed-keeps d true = await-keys-keeps d _
+await-keys-or-succeed-keeps d false = record { ofRole = tt; kept = refl }
 
 link-encrypted-success-keeps : (d : PairingData) → Keeps Enters 9 58 («handle_link_encrypted_success» d)
 unfolding «handle_link_encrypted_success»
-link-encrypted-success-keeps d = keys-or-success-keeps d (wantBonding d)
+link-encrypted-success-keeps d = await-keys-or-succeed-keeps d (wantBonding d)
 
 send-mconfirm-keeps : (c : ConfirmPhaseData) (d : PairingData) → Keeps Anything 2 18 («send_mconfirm» c d)
 unfolding «send_mconfirm» callOctets octetsOf
@@ -149,17 +149,17 @@ central-identification-keeps :
     Keeps Enters 9 58 («handle_central_identification» d ltk payload)
 unfolding «handle_central_identification»
 central-identification-keeps d ltk payload =
-    or-fail-then _ _ 9 58 d _ (identificationIn payload) (λ x. identity-or-keys-keeps _ _)
+    or-fail-then _ _ 9 58 d _ (identificationIn payload) (λ x. await-identity-or-send-keeps _ _)
 
-send-keys-or-success-keeps : (d : PairingData) (b : Bool) → Keeps Enters 9 58 (sendKeysOrSucceed d b)
-send-keys-or-success-keeps d true = send-all-keys-keeps d
-send-keys-or-success-keeps d false = record { ofRole = tt; kept = refl }
+send-keys-or-succeed-keeps : (d : PairingData) (b : Bool) → Keeps Enters 9 58 (sendKeysOrSucceed d b)
+send-keys-or-succeed-keeps d true = send-all-keys-keeps d
+send-keys-or-succeed-keeps d false = record { ofRole = tt; kept = refl }
 
 identity-address-keeps :
     (d : PairingData) (payload : List ℕ) → Keeps Enters 9 58 («handle_identity_address_information» d payload)
 unfolding «handle_identity_address_information»
 identity-address-keeps d payload =
-    or-fail-then _ _ 9 58 d _ (addressIn payload) (λ a. send-keys-or-success-keeps _ (wantBonding d))
+    or-fail-then _ _ 9 58 d _ (addressIn payload) (λ a. send-keys-or-succeed-keeps _ (wantBonding d))
 
 link-encrypted-keeps : (d : PairingData) (encrypted : Bool) → Keeps Enters 9 58 (linkEncrypted d encrypted)
 link-encrypted-keeps d true = link-encrypted-success-keeps d
@@ -172,62 +172,62 @@ transition-from-keeps m payload i phase.WaitingPairingResponse =
     let c = m .«confirm_data» in
     let d = m .«pairing_data» in
     on-command (TransitionKeeps Central m) command.PairingResponse i _ _
-    (moves-by Central m («handle_pairing_response» c d payload) 4 24 (lit≤ tt) (lit≤ tt)
+    (keeps-by Central m («handle_pairing_response» c d payload) 4 24 (lit≤ tt) (lit≤ tt)
     (pairing-response-keeps c d payload))
     (other-input-keeps Central m payload i)
 transition-from-keeps m payload i (phase.WaitingPassKeyInput early) =
     let c = m .«confirm_data» in
     let d = m .«pairing_data» in
     on-command (TransitionKeeps Central m) command.PairingConfirm i _ _
-    (moves-by Central m («store_confirm_bytes» c d payload) 0 0 (lit≤ tt) (lit≤ tt)
+    (keeps-by Central m («store_confirm_bytes» c d payload) 0 0 (lit≤ tt) (lit≤ tt)
     (store-confirm-bytes-keeps Central 0 0 c d payload))
     (on-pass-key-input (TransitionKeeps Central m) i _ _
-    (λ n. moves-by Central m («handle_pass_key_input» c d n early) 3 35 (lit≤ tt) (lit≤ tt)
+    (λ n. keeps-by Central m («handle_pass_key_input» c d n early) 3 35 (lit≤ tt) (lit≤ tt)
     (pass-key-input-keeps c d n early))
     (on-pass-key-cancel (TransitionKeeps Central m) i _ _ tt (other-input-keeps Central m payload i)))
 transition-from-keeps m payload i phase.WaitingOobData =
     let c = m .«confirm_data» in
     let d = m .«pairing_data» in
     on-oob-data (TransitionKeeps Central m) i _ _
-    (λ w. moves-by Central m (beginConfirm (c .preq) (c .pres) d w) 2 18 (lit≤ tt) (lit≤ tt)
+    (λ w. keeps-by Central m (beginConfirm (c .preq) (c .pres) d w) 2 18 (lit≤ tt) (lit≤ tt)
     (begin-confirm-keeps (c .preq) (c .pres) d w))
     (other-input-keeps Central m payload i)
 transition-from-keeps m payload i phase.WaitingPairingConfirm =
     let c = m .«confirm_data» in
     let d = m .«pairing_data» in
     on-command (TransitionKeeps Central m) command.PairingConfirm i _ _
-    (moves-by Central m («handle_peer_confirm» c d payload) 1 17 (lit≤ tt) (lit≤ tt) (peer-confirm-keeps c d payload))
+    (keeps-by Central m («handle_peer_confirm» c d payload) 1 17 (lit≤ tt) (lit≤ tt) (peer-confirm-keeps c d payload))
     (other-input-keeps Central m payload i)
 transition-from-keeps m payload i (phase.WaitingPairingRandom confirm) =
     let c = m .«confirm_data» in
     let d = m .«pairing_data» in
     on-command (TransitionKeeps Central m) command.PairingRandom i _ _
-    (moves-by Central m («handle_pairing_random» c d confirm payload) 1 19 (lit≤ tt) (lit≤ tt)
+    (keeps-by Central m («handle_pairing_random» c d confirm payload) 1 19 (lit≤ tt) (lit≤ tt)
     (pairing-random-keeps c d confirm payload))
     (other-input-keeps Central m payload i)
 transition-from-keeps m payload i phase.WaitingLinkEncrypted =
     let d = m .«pairing_data» in
     on-link-encrypted (TransitionKeeps Central m) i _ _
-    (λ b. moves-by Central m (linkEncrypted d b) 9 58 (lit≤ tt) (lit≤ tt) (link-encrypted-keeps d b))
+    (λ b. keeps-by Central m (linkEncrypted d b) 9 58 (lit≤ tt) (lit≤ tt) (link-encrypted-keeps d b))
     (other-input-keeps Central m payload i)
 transition-from-keeps m payload i phase.WaitingIdentitityInformation =
     let d = m .«pairing_data» in
     on-command (TransitionKeeps Central m) command.IdentityInformation i _ _
-    (moves-by Central m («handle_identity_information» d payload) 0 0 (lit≤ tt) (lit≤ tt)
+    (keeps-by Central m («handle_identity_information» d payload) 0 0 (lit≤ tt) (lit≤ tt)
     (identity-information-keeps Central 0 0 d payload))
     (other-input-keeps Central m payload i)
 transition-from-keeps m payload i phase.WaitingIdentitityAddressInformation =
     let d = m .«pairing_data» in
     on-command (TransitionKeeps Central m) command.IdentityAddressInformation i _ _
-    (moves-by Central m («handle_identity_address_information» d payload) 9 58 (lit≤ tt) (lit≤ tt)
+    (keeps-by Central m («handle_identity_address_information» d payload) 9 58 (lit≤ tt) (lit≤ tt)
     (identity-address-keeps d payload))
     (other-input-keeps Central m payload i)
 transition-from-keeps m payload i (phase.ReceivingKeys n ltk) =
     let d = m .«pairing_data» in
     on-receiving-keys (TransitionKeeps Central m) n i _ _ _
-    (moves-by Central m («handle_encryption_information» d payload) 0 0 (lit≤ tt) (lit≤ tt)
+    (keeps-by Central m («handle_encryption_information» d payload) 0 0 (lit≤ tt) (lit≤ tt)
     (encryption-information-keeps Central 0 0 d payload))
-    (moves-by Central m («handle_central_identification» d ltk payload) 9 58 (lit≤ tt) (lit≤ tt)
+    (keeps-by Central m («handle_central_identification» d ltk payload) 9 58 (lit≤ tt) (lit≤ tt)
     (central-identification-keeps d ltk payload))
     (other-input-keeps Central m payload i)
 transition-from-keeps m payload i phase.Success = other-input-keeps Central m payload i

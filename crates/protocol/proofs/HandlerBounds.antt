@@ -21,7 +21,6 @@ use Rattle.bond.specs.declared.OptionBond.the-variants as option
 use Rattle.host.specs.Calls.{callOctets}
 use Rattle.host.specs.declared.call.Call.{Call}
 use Rattle.host.specs.declared.call.Call.the-variants as call
-use Rattle.host.specs.declared.call.ConnectionEvent.{ConnectionEvent}
 use Rattle.host.specs.declared.call.ConnectionEvent.the-variants as notice
 use Rattle.host.proofs.Writing.{call-short}
 use Rattle.machine.specs.Machine.{Canonical, wantBonding}
@@ -35,9 +34,9 @@ use Rattle.machine.specs.declared.Phase.{Phase}
 use Rattle.machine.specs.declared.Phase.the-variants as phase
 use Rattle.machine.specs.declared.Role.{Role}
 use Rattle.protocol.specs.Program.{bind}
-use Rattle.protocol.specs.Ops.{Delivery, Reply}
+use Rattle.protocol.specs.Ops.{Reply}
 use Rattle.protocol.specs.Handlers.{Try, ok, err, Handler, wordIn, onCommand, onLinkEncrypted, onPassKeyInput, onPassKeyCancel, onOobData, onReceivingKeys, otherInput, enterBonded, enterSuccess, enterPhase, enter, entered, «store_confirm_bytes», sendEncryptionKey, sendIdentityKey, enableEncryption, «handle_encryption_information», «handle_identity_information»}
-use Rattle.protocol.proofs.Bounds.{Fails, EndsIn, BreaksEvent, BrokenEvent, alike-then, Within, Breaks, Keeps, Anything, OfResult, Broken, within-bind, keeps-more, either-keeps, or-fail-then, delivered-then, delivered-last, address-then, bond-then}
+use Rattle.protocol.proofs.Bounds.{Fails, EndsIn, failure-bind, Within, Breaks, Keeps, Anything, OfResult, Broken, within-bind, keeps-more, either-keeps, or-fail-then, delivered-then, delivered-last, address-then, bond-then}
 
 -- no call, so any bounds
 pub store-confirm-bytes-keeps :
@@ -127,10 +126,10 @@ abbrev pub Stays : Role → Machine → Machine → Type 0
 Stays r m m₁ = Canonical r m → Canonical r m₁
 
 -- the bounds of a transition, from those of one of its handlers
-pub moves-by :
+pub keeps-by :
     (r : Role) (m : Machine) (p : Handler Machine) (n o : ℕ) → n ≤ 9 → o ≤ 58 → Keeps (Canonical r) n o p →
     Keeps (Stays r m) 9 58 p
-moves-by r m p n o h g w = keeps-more (Canonical r) (Stays r m) p n o 9 58 (λ m₁ c b. c) h g w
+keeps-by r m p n o h g w = keeps-more (Canonical r) (Stays r m) p n o 9 58 (λ m₁ c b. c) h g w
 
 -- an input that the state does not await
 pub other-input-keeps :
@@ -236,28 +235,11 @@ enter-within P m h = at (m .phase)
     at (phase.ReceivingKeys n k) = h
 
 -- what fails a handler ends the step
-fails-entered : (k : Delivery → Handler Machine) → Fails k → EndsIn (λ x. bind (k x) entered)
-unfolding enter
-fails-entered k b = λ e. (b e .0, ap (λ (q : Handler Machine). bind q entered) (b e .1))
-
-event-entered :
-    (e : ConnectionEvent) (k : Delivery → Handler Machine) → BreaksEvent e k → BrokenEvent e (λ x. bind (k x) entered)
-event-entered (notice.PairingFailed e) k b = alike-then entered k b
-event-entered (notice.PairingComplete l o) k b = alike-then entered k b
-event-entered (notice.PassKeyDisplay n) k b = fails-entered k b
-event-entered notice.PassKeyInput k b = fails-entered k b
-event-entered notice.BondLost k b = alike-then entered k b
-event-entered notice.OobRequest k b = fails-entered k b
-
 breaks-entered :
     (c : Call) (k : Reply c → Handler Machine) → Breaks c k → Broken c (λ x. bind (k x) entered)
-breaks-entered (call.SendPacket p) k b = fails-entered k b
-breaks-entered (call.SendConnectionEvent e) k b = event-entered e k b
-breaks-entered (call.Ask q) k b = tt
-breaks-entered (call.Draw d) k b = tt
-breaks-entered (call.EnableEncryption w l n) k b = tt
-breaks-entered call.EnableBondedEncryption k b = tt
-breaks-entered (call.UpdateBondInformation w) k b = alike-then entered k b
+unfolding enter
+breaks-entered =
+    failure-bind Fails EndsIn entered (λ k b e. (b e .0, ap (λ (q : Handler Machine). bind q entered) (b e .1)))
 
 -- a transition, and then the state that it gives is entered
 pub entered-within :

@@ -14,10 +14,11 @@ use Rattle.protocol.specs.Handlers.{Handler, ok, entered, enter}
 use Rattle.protocol.specs.LegacyCentral as central
 use Rattle.protocol.specs.LegacyPeripheral as peripheral
 use Rattle.protocol.specs.Step.{handleInput, playOf, stepped, step}
-use Rattle.protocol.proofs.Bounds.{Broken, OfEnding, plays-within}
+use Rattle.protocol.proofs.Programs.{OfEnding}
+use Rattle.protocol.proofs.Bounds.{Broken, plays-within}
 use Rattle.protocol.specs.Ops.{replyAt, Program}
 use Rattle.protocol.proofs.HandlerBounds.{enter-within}
-use Rattle.protocol.proofs.Limits.{step-gives}
+use Rattle.protocol.proofs.StepLaws.{step-gives}
 use Rattle.protocol.proofs.Awaited.{transitionOf, keypress, keypress-leaves, Unawaited, passkey-leaves}
 
 -- entering a state gives its machine
@@ -47,7 +48,7 @@ leaves :
     step r m i payload answers list .stepped .machine ≡ m
 unfolding playOf
 leaves r m i payload answers list h =
-    step-gives (λ x. x ≡ m) r m i payload answers list refl
+    step-gives r m i payload answers list (λ x. x ≡ m) refl
     (subst (λ (p : Program Machine). OfEnding (λ x. x ≡ m) (play replyAt answers p 0 .ending))
     (sym (enters-again r m i payload h)) (entering m answers))
 

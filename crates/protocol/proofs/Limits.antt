@@ -1,12 +1,12 @@
 -- The limits of a step of either role: at most 11 calls of at most 164 octets, both reached; what a failure to deliver
 -- does, after a packet PairingFailed alone; a canonical machine stays canonical. Assumes nothing.
 use Prim.Native.Nat.{ℕ, _≤_}
-use mathlib.Core.Bool.{Bool, true, false, cond}
+use mathlib.Core.Bool.{true}
 use mathlib.Core.Path.{_≡_, refl, ap, _∙_}
 use mathlib.Core.List.{List, [], _∷_, _++_}
 use native.Mathlib.Nat.{zero-add}
 use native.Mathlib.Omega.{arith}
-use lib.Dec.{ltb, lit≤}
+use lib.Dec.{lit≤}
 use lib.ListN.{length, drop, replicate}
 use Rattle.octets.specs.Octets.{octetsOf}
 use Rattle.octets.proofs.Parts.{written}
@@ -34,10 +34,11 @@ use Rattle.protocol.specs.Program.{bind, Ending, ended, wanting, refusin
 use Rattle.protocol.specs.Handlers.{Handler, entered, enters, withFeatures, withBond, withKeys, enter, sendEncryptionKey, sendIdentityKey}
 use Rattle.protocol.specs.LegacyCentral as central
 use Rattle.protocol.specs.LegacyPeripheral as peripheral
-use Rattle.protocol.specs.Step.{handleInput, playOf, callsOctets, longest, refusedBy, stepped, isKnown, step}
+use Rattle.protocol.specs.Step.{handleInput, playOf, callsOctets, longest, stepped, step}
 use Rattle.protocol.specs.declared.Outcome.the-variants as outcome
-use Rattle.protocol.proofs.StepLaws.{step-list}
-use Rattle.protocol.proofs.Bounds.{within-more, Within, Broken, FailsOnce, within-fails, OfEnding, PlaysWithin, plays-within}
+use Rattle.protocol.proofs.StepLaws.{step-list, step-gives}
+use Rattle.protocol.proofs.Programs.{OfEnding}
+use Rattle.protocol.proofs.Bounds.{within-more, Within, Broken, FailsOnce, within-fails, PlaysWithin, plays-within}
 use Rattle.protocol.proofs.HandlerBounds.{TransitionKeeps, Stays, entered-within}
 use Rattle.protocol.proofs.CentralBounds as central-bounds
 use Rattle.protocol.proofs.PeripheralBounds as peripheral-bounds
@@ -106,31 +107,12 @@ ending-more P Q f (ended m) h = f m h
 ending-more P Q f wanting h = tt
 ending-more P Q f refusing h = tt
 
--- what holds of the machine given, and of the program's where it ended, holds of the machine that a step gives back
-pub step-gives :
-    (P : Machine → Type 0) (r : Role) (m : Machine) (i : Input) (payload answers list : List ℕ) → P m →
-    OfEnding P (playOf r m i payload answers .ending) → P (step r m i payload answers list .stepped .machine)
-unfolding step
-step-gives P r m i payload answers list h g =
-    any (ltb (length list) longest) (isKnown i) (playOf r m i payload answers .ending) g
-  where
-    any :
-        (short known : Bool) (x : Ending Machine) → OfEnding P x →
-        P (cond short (refusedBy 1 m list) (cond known
-        (stepped m list (playOf r m i payload answers .calls) (playOf r m i payload answers .place) x)
-        (refusedBy 2 m list)) .stepped .machine)
-    any true known x g = h
-    any false true (ended m₁) g = g
-    any false true wanting g = h
-    any false true refusing g = h
-    any false false x g = h
-
 -- a step leaves a canonical machine canonical, whatever comes of it
 pub canonical-step :
     (r : Role) (m : Machine) (i : Input) (payload answers list : List ℕ) → Canonical r m →
     Canonical r (step r m i payload answers list .stepped .machine)
 canonical-step r m i payload answers list h =
-    step-gives (Canonical r) r m i payload answers list h
+    step-gives r m i payload answers list (Canonical r) h
     (ending-more (Stays r m) (Canonical r) (λ m₁ g. g h) (playOf r m i payload answers .ending)
     (play-limits r m i payload answers .gives))
 

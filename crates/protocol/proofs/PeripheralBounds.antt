@@ -26,22 +26,22 @@ use Rattle.machine.specs.declared.Role.the-variants.{Peripheral}
 use Rattle.protocol.specs.Handlers.{wordIn, featuresIn, identificationIn, addressIn, namesIdentityKey, withBond, «store_confirm_bytes», sendEncryptionKey, sendIdentityKey, «handle_encryption_information», «handle_identity_information»}
 use Rattle.protocol.specs.LegacyPeripheral.{awaitIdentityOrSucceed, awaitKeys, «send_all_keys», sendKeysOrAwaitIdentity, «handle_link_encrypted_success», «send_sconfirm», answerConfirm, «handle_peer_confirm», «handle_pass_key_input», bondLost, identityOffered, beginMethod, «handle_pairing_request», confirmValue, onMrand, «handle_pairing_random», «handle_central_identification», «handle_identity_address_information», linkEncrypted, transitionFrom, transition}
 use Rattle.protocol.proofs.Bounds.{Keeps, Anything, keeps-then, or-fail-then, delivered-then, option-bond-then}
-use Rattle.protocol.proofs.HandlerBounds.{store-confirm-bytes-keeps, send-encryption-key-keeps, send-identity-key-keeps, enable-encryption-keeps, encryption-information-keeps, identity-information-keeps, TransitionKeeps, moves-by, other-input-keeps, on-command, on-link-encrypted, on-pass-key-input, on-pass-key-cancel, on-oob-data, on-receiving-keys}
+use Rattle.protocol.proofs.HandlerBounds.{store-confirm-bytes-keeps, send-encryption-key-keeps, send-identity-key-keeps, enable-encryption-keeps, encryption-information-keeps, identity-information-keeps, TransitionKeeps, keeps-by, other-input-keeps, on-command, on-link-encrypted, on-pass-key-input, on-pass-key-cancel, on-oob-data, on-receiving-keys}
 
 -- a state that a handler of this role enters
 abbrev Enters : Machine → Type 0
 Enters m = Canonical Peripheral m
 
 -- no call, so any bounds
-identity-or-success-keeps : (n o : ℕ) (d : PairingData) (b : Bool) → Keeps Enters n o (awaitIdentityOrSucceed d b)
+await-identity-or-succeed-keeps : (n o : ℕ) (d : PairingData) (b : Bool) → Keeps Enters n o (awaitIdentityOrSucceed d b)
 unfolding awaitIdentityOrSucceed
-identity-or-success-keeps n o d true = record { ofRole = tt; kept = refl }
-identity-or-success-keeps n o d false = record { ofRole = tt; kept = refl }
+await-identity-or-succeed-keeps n o d true = record { ofRole = tt; kept = refl }
+await-identity-or-succeed-keeps n o d false = record { ofRole = tt; kept = refl }
 
-receive-keys-keeps : (n o : ℕ) (d : PairingData) (b : Bool) → Keeps Enters n o (awaitKeys d b)
+await-keys-keeps : (n o : ℕ) (d : PairingData) (b : Bool) → Keeps Enters n o (awaitKeys d b)
 unfolding awaitKeys
-receive-keys-keeps n o d true = record { ofRole = tt; kept = refl }
-receive-keys-keeps n o d false = identity-or-success-keeps n o d _
+await-keys-keeps n o d true = record { ofRole = tt; kept = refl }
+await-keys-keeps n o d false = await-identity-or-succeed-keeps n o d _
 
 -- the longest: both keys are sent
 send-all-keys-keeps : (d : PairingData) → Keeps Enters 9 58 («send_all_keys» d)
@@ -49,19 +49,19 @@ unfolding «send_all_keys»
 send-all-keys-keeps d =
     keeps-then (sendEncryptionKey d _ _) _ Anything _ 9 58 5 31 (lit≤ tt) (lit≤ tt) (send-encryption-key-keeps d _ _)
     (λ d₁ u. keeps-then (sendIdentityKey d₁ _) _ Anything _ 4 27 4 27 (lit≤ tt) (lit≤ tt) (send-identity-key-keeps d₁ _)
-    (λ v w. receive-keys-keeps 0 0 d₁ _))
+    (λ v w. await-keys-keeps 0 0 d₁ _))
 
-keys-or-identity-keeps : (d : PairingData) (b : Bool) → Keeps Enters 9 58 (sendKeysOrAwaitIdentity d b)
+send-keys-or-await-identity-keeps : (d : PairingData) (b : Bool) → Keeps Enters 9 58 (sendKeysOrAwaitIdentity d b)
 unfolding sendKeysOrAwaitIdentity
-keys-or-identity-keeps d true = send-all-keys-keeps d
-keys-or-identity-keeps d false = identity-or-success-keeps 9 58 d _
+send-keys-or-await-identity-keeps d true = send-all-keys-keeps d
+send-keys-or-await-identity-keeps d false = await-identity-or-succeed-keeps 9 58 d _
 
 link-encrypted-success-keeps :
-    (d : PairingData) (requested : Bool) → Keeps Enters 9 58 («handle_link_encrypted_success» d requested)
+    (d : PairingData) (beforeRequest : Bool) → Keeps Enters 9 58 («handle_link_encrypted_success» d beforeRequest)
 unfolding «handle_link_encrypted_success» sendKeysOrAwaitIdentity callOctets
 link-encrypted-success-keeps d true =
-    (lit≤ tt, lit≤ tt, tt, option-bond-then _ _ _ _ d (λ b. identity-or-success-keeps 8 57 (withBond b d) _))
-link-encrypted-success-keeps d false = keys-or-identity-keeps d (wantBonding d)
+    (lit≤ tt, lit≤ tt, tt, option-bond-then _ _ _ _ d (λ b. await-identity-or-succeed-keeps 8 57 (withBond b d) _))
+link-encrypted-success-keeps d false = send-keys-or-await-identity-keeps d (wantBonding d)
 
 send-sconfirm-keeps : (c : ConfirmPhaseData) (d : PairingData) → Keeps Anything 2 18 («send_sconfirm» c d)
 unfolding «send_sconfirm» callOctets octetsOf
@@ -162,7 +162,7 @@ central-identification-keeps :
     (n o : ℕ) (d : PairingData) (payload : List ℕ) → Keeps Enters n o («handle_central_identification» d payload)
 unfolding «handle_central_identification»
 central-identification-keeps n o d payload =
-    or-fail-then _ _ n o d _ (identificationIn payload) (λ x. identity-or-success-keeps n o d _)
+    or-fail-then _ _ n o d _ (identificationIn payload) (λ x. await-identity-or-succeed-keeps n o d _)
 
 identity-address-keeps :
     (n o : ℕ) (d : PairingData) (payload : List ℕ) → Keeps Enters n o («handle_identity_address_information» d payload)
@@ -171,9 +171,9 @@ identity-address-keeps n o d payload =
     or-fail-then _ _ n o d _ (addressIn payload) (λ a. record { ofRole = tt; kept = refl })
 
 link-encrypted-keeps :
-    (d : PairingData) (requested encrypted : Bool) → Keeps Enters 9 58 (linkEncrypted d requested encrypted)
-link-encrypted-keeps d requested true = link-encrypted-success-keeps d requested
-link-encrypted-keeps d requested false = tt
+    (d : PairingData) (beforeRequest encrypted : Bool) → Keeps Enters 9 58 (linkEncrypted d beforeRequest encrypted)
+link-encrypted-keeps d beforeRequest true = link-encrypted-success-keeps d beforeRequest
+link-encrypted-keeps d beforeRequest false = tt
 
 -- a row for each state, as in `transitionFrom`
 transition-from-keeps :
@@ -181,19 +181,19 @@ transition-from-keeps :
 transition-from-keeps m payload i phase.WaitingPairingRequest =
     let d = m .«pairing_data» in
     on-command (TransitionKeeps Peripheral m) command.PairingRequest i _ _
-    (moves-by Peripheral m («handle_pairing_request» d payload) 8 18 (lit≤ tt) (lit≤ tt)
+    (keeps-by Peripheral m («handle_pairing_request» d payload) 8 18 (lit≤ tt) (lit≤ tt)
     (pairing-request-keeps d payload))
     (on-link-encrypted (TransitionKeeps Peripheral m) i _ _
-    (λ b. moves-by Peripheral m (linkEncrypted d true b) 9 58 (lit≤ tt) (lit≤ tt) (link-encrypted-keeps d true b))
+    (λ b. keeps-by Peripheral m (linkEncrypted d true b) 9 58 (lit≤ tt) (lit≤ tt) (link-encrypted-keeps d true b))
     (other-input-keeps Peripheral m payload i))
 transition-from-keeps m payload i (phase.WaitingPassKeyInput early) =
     let c = m .«confirm_data» in
     let d = m .«pairing_data» in
     on-command (TransitionKeeps Peripheral m) command.PairingConfirm i _ _
-    (moves-by Peripheral m («store_confirm_bytes» c d payload) 0 0 (lit≤ tt) (lit≤ tt)
+    (keeps-by Peripheral m («store_confirm_bytes» c d payload) 0 0 (lit≤ tt) (lit≤ tt)
     (store-confirm-bytes-keeps Peripheral 0 0 c d payload))
     (on-pass-key-input (TransitionKeeps Peripheral m) i _ _
-    (λ n. moves-by Peripheral m («handle_pass_key_input» c d n early) 2 18 (lit≤ tt) (lit≤ tt)
+    (λ n. keeps-by Peripheral m («handle_pass_key_input» c d n early) 2 18 (lit≤ tt) (lit≤ tt)
     (pass-key-input-keeps c d n early))
     (on-pass-key-cancel (TransitionKeeps Peripheral m) i _ _ tt (other-input-keeps Peripheral m payload i)))
 transition-from-keeps m payload i phase.WaitingOobData =
@@ -203,39 +203,39 @@ transition-from-keeps m payload i phase.WaitingPairingConfirm =
     let c = m .«confirm_data» in
     let d = m .«pairing_data» in
     on-command (TransitionKeeps Peripheral m) command.PairingConfirm i _ _
-    (moves-by Peripheral m («handle_peer_confirm» c d payload) 2 18 (lit≤ tt) (lit≤ tt)
+    (keeps-by Peripheral m («handle_peer_confirm» c d payload) 2 18 (lit≤ tt) (lit≤ tt)
     (peer-confirm-keeps c d payload))
     (other-input-keeps Peripheral m payload i)
 transition-from-keeps m payload i (phase.WaitingPairingRandom confirm) =
     let c = m .«confirm_data» in
     let d = m .«pairing_data» in
     on-command (TransitionKeeps Peripheral m) command.PairingRandom i _ _
-    (moves-by Peripheral m («handle_pairing_random» c d confirm payload) 2 36 (lit≤ tt) (lit≤ tt)
+    (keeps-by Peripheral m («handle_pairing_random» c d confirm payload) 2 36 (lit≤ tt) (lit≤ tt)
     (pairing-random-keeps c d confirm payload))
     (other-input-keeps Peripheral m payload i)
 transition-from-keeps m payload i phase.WaitingLinkEncrypted =
     let d = m .«pairing_data» in
     on-link-encrypted (TransitionKeeps Peripheral m) i _ _
-    (λ b. moves-by Peripheral m (linkEncrypted d false b) 9 58 (lit≤ tt) (lit≤ tt) (link-encrypted-keeps d false b))
+    (λ b. keeps-by Peripheral m (linkEncrypted d false b) 9 58 (lit≤ tt) (lit≤ tt) (link-encrypted-keeps d false b))
     (other-input-keeps Peripheral m payload i)
 transition-from-keeps m payload i phase.WaitingIdentitityInformation =
     let d = m .«pairing_data» in
     on-command (TransitionKeeps Peripheral m) command.IdentityInformation i _ _
-    (moves-by Peripheral m («handle_identity_information» d payload) 0 0 (lit≤ tt) (lit≤ tt)
+    (keeps-by Peripheral m («handle_identity_information» d payload) 0 0 (lit≤ tt) (lit≤ tt)
     (identity-information-keeps Peripheral 0 0 d payload))
     (other-input-keeps Peripheral m payload i)
 transition-from-keeps m payload i phase.WaitingIdentitityAddressInformation =
     let d = m .«pairing_data» in
     on-command (TransitionKeeps Peripheral m) command.IdentityAddressInformation i _ _
-    (moves-by Peripheral m («handle_identity_address_information» d payload) 0 0 (lit≤ tt) (lit≤ tt)
+    (keeps-by Peripheral m («handle_identity_address_information» d payload) 0 0 (lit≤ tt) (lit≤ tt)
     (identity-address-keeps 0 0 d payload))
     (other-input-keeps Peripheral m payload i)
 transition-from-keeps m payload i (phase.ReceivingKeys n ltk) =
     let d = m .«pairing_data» in
     on-receiving-keys (TransitionKeeps Peripheral m) n i _ _ _
-    (moves-by Peripheral m («handle_encryption_information» d payload) 0 0 (lit≤ tt) (lit≤ tt)
+    (keeps-by Peripheral m («handle_encryption_information» d payload) 0 0 (lit≤ tt) (lit≤ tt)
     (encryption-information-keeps Peripheral 0 0 d payload))
-    (moves-by Peripheral m («handle_central_identification» d payload) 0 0 (lit≤ tt) (lit≤ tt)
+    (keeps-by Peripheral m («handle_central_identification» d payload) 0 0 (lit≤ tt) (lit≤ tt)
     (central-identification-keeps 0 0 d payload))
     (other-input-keeps Peripheral m payload i)
 transition-from-keeps m payload i phase.Success = other-input-keeps Peripheral m payload i

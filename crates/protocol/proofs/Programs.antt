@@ -27,6 +27,12 @@ IsWanting (ended a) = ⊥
 IsWanting wanting = Unit {0}
 IsWanting refusing = ⊥
 
+-- P holds of what a play that ended gives
+abbrev pub OfEnding : {A : Type 0} → (A → Type 0) → Ending A → Type 0
+OfEnding P (ended a) = P a
+OfEnding P wanting = Unit {0}
+OfEnding P refusing = Unit {0}
+
 is-ended : {A : Type 0} {e : Ending A} {a : A} → e ≡ ended a → IsEnded e
 is-ended h = subst IsEnded (sym h) tt
 

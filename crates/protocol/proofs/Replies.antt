@@ -34,7 +34,7 @@ use Rattle.protocol.proofs.Programs.{Reads}
 
 -- ---- every reply is the meaning of the body at its place
 
-abbrev meaning : (κ : Sort) → List ℕ → Found (Holds κ)
+abbrev meaning : (sort : Sort) → List ℕ → Found (Holds sort)
 meaning aVerdict b = found (deliveryOf (getD b 0 0))
 meaning aFlag b = allowed (flagOf (getD b 0 0)) (λ yes. yes)
 meaning anIrk b = found (record { 0 = wordOf b })
@@ -103,7 +103,7 @@ present-there b none = tt
 present-there b (some true) = allowed-there (bondOf (take 51 (drop 2 b))) _
 present-there b (some false) = tt
 
-meaning-there : (κ : Sort) (b : List ℕ) → IsThere (meaning κ b)
+meaning-there : (sort : Sort) (b : List ℕ) → IsThere (meaning sort b)
 meaning-there aVerdict b = tt
 meaning-there aFlag b = allowed-there (flagOf (getD b 0 0)) _
 meaning-there anIrk b = tt

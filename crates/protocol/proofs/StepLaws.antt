@@ -22,7 +22,7 @@ use Rattle.protocol.specs.declared.Outcome.the-variants as outcome
 use Rattle.protocol.specs.Program.{ask, Ending, ended, wanting, refusing, Played, play}
 use Rattle.protocol.specs.Ops.{Reply, answerSize, replyAt, Program}
 use Rattle.protocol.specs.Step.{handleInput, playOf, callsOctets, Step, longest, refusedBy, stepped, isKnown, step}
-use Rattle.protocol.proofs.Programs.{total, place-ended, place-wanting, wanting-last}
+use Rattle.protocol.proofs.Programs.{OfEnding, total, place-ended, place-wanting, wanting-last}
 use Rattle.protocol.proofs.Programs.{rest, answered, play-left-over, play-again}
 use Rattle.protocol.proofs.Programs.{again-ending, again-place, again-calls, again-further}
 use Rattle.protocol.proofs.Replies.{reads, reply-size}
@@ -113,6 +113,14 @@ module _ (m : Machine) (list : List ℕ) (x : Played Call Machine) where
   made-list false true refusing h = absurd (h 3 refl)
   made-list false false e h = absurd (h 2 refl)
 
+  made-gives : (P : Machine → Type 0) (short known : Bool) (e : Ending Machine) → P m → OfEnding P e
+      → P (made short known e .stepped .machine)
+  made-gives P true known e h g = h
+  made-gives P false true (ended m₁) h g = g
+  made-gives P false true wanting h g = h
+  made-gives P false true refusing h g = h
+  made-gives P false false e h g = h
+
 module _ (r : Role) (m : Machine) (i : Input) (payload answers list : List ℕ) where
   abbrev stepBy : Ending Machine → Step
   stepBy e = stepped m list (playOf r m i payload answers .calls) (playOf r m i payload answers .place) e
@@ -146,6 +154,14 @@ module _ (r : Role) (m : Machine) (i : Input) (payload answers list : List ℕ) 
   step-list h =
       let x = playOf r m i payload answers in
       made-list m list x (ltb (length list) longest) (isKnown i) (x .ending) h
+
+  -- what holds of the machine given, and of the program's where it ended, holds of the machine that a step gives back
+  pub step-gives : (P : Machine → Type 0) → P m → OfEnding P (playOf r m i payload answers .ending)
+      → P (step r m i payload answers list .stepped .machine)
+  unfolding step
+  step-gives P h g =
+      let x = playOf r m i payload answers in
+      made-gives m list x P (ltb (length list) longest) (isKnown i) (x .ending) h g
 
   -- on answers with the same play, the step is the same
   same-step : (others : List ℕ) → playOf r m i payload others ≡ playOf r m i payload answers
