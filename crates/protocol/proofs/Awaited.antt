@@ -32,43 +32,76 @@ same-ways true c x = refl
 same-ways false true x = refl
 same-ways false false x = refl
 
+-- a code that no state of either role awaits
+pub record NotAwaited (code : ℕ) : Type 0 where
+  pub request : eqb code (commandCode command.PairingRequest) ≡ false
+  pub response : eqb code (commandCode command.PairingResponse) ≡ false
+  pub confirm : eqb code (commandCode command.PairingConfirm) ≡ false
+  pub random : eqb code (commandCode command.PairingRandom) ≡ false
+  pub encryption : eqb code (commandCode command.EncryptionInformation) ≡ false
+  pub identification : eqb code (commandCode command.CentralIdentification) ≡ false
+  pub identity : eqb code (commandCode command.IdentityInformation) ≡ false
+  pub address : eqb code (commandCode command.IdentityAddressInformation) ≡ false
+
+-- .. is another input, in any state
+pub not-awaited :
+    (r : Role) (m : Machine) (code : ℕ) (payload : List ℕ) → NotAwaited code →
+    transitionOf r m (input.Command code) payload ≡ otherInput m payload (input.Command code)
+unfolding central.transition peripheral.transition
+not-awaited Central m code payload h = at (m .phase)
+  where
+    at :
+        (p : Phase) →
+        central.transitionFrom m payload (input.Command code) p ≡ otherInput m payload (input.Command code)
+    at phase.WaitingPairingRequest = refl
+    at phase.WaitingPairingResponse = rw (h .response)
+    at (phase.WaitingPassKeyInput b) = rw (h .confirm)
+    at phase.WaitingOobData = refl
+    at phase.WaitingPairingConfirm = rw (h .confirm)
+    at (phase.WaitingPairingRandom c) = rw (h .random)
+    at phase.WaitingLinkEncrypted = refl
+    at phase.WaitingIdentitityInformation = rw (h .identity)
+    at phase.WaitingIdentitityAddressInformation = rw (h .address)
+    at (phase.ReceivingKeys n k) = rw (h .encryption, h .identification) (same-ways (eqb n 0) (eqb n 1) _)
+    at phase.Success = refl
+    at (phase.Error e) = refl
+not-awaited Peripheral m code payload h = at (m .phase)
+  where
+    at :
+        (p : Phase) →
+        peripheral.transitionFrom m payload (input.Command code) p ≡ otherInput m payload (input.Command code)
+    at phase.WaitingPairingRequest = rw (h .request)
+    at phase.WaitingPairingResponse = refl
+    at (phase.WaitingPassKeyInput b) = rw (h .confirm)
+    at phase.WaitingOobData = refl
+    at phase.WaitingPairingConfirm = rw (h .confirm)
+    at (phase.WaitingPairingRandom c) = rw (h .random)
+    at phase.WaitingLinkEncrypted = refl
+    at phase.WaitingIdentitityInformation = rw (h .identity)
+    at phase.WaitingIdentitityAddressInformation = rw (h .address)
+    at (phase.ReceivingKeys n k) = rw (h .encryption, h .identification) (same-ways (eqb n 0) (eqb n 1) _)
+    at phase.Success = refl
+    at (phase.Error e) = refl
+
 abbrev pub keypress : Input
 keypress = input.Command (commandCode command.KeypressNotification)
 
 -- a KeypressNotification, in any state
 pub keypress-leaves :
     (r : Role) (m : Machine) (payload : List ℕ) → transitionOf r m keypress payload ≡ ret (ok m)
-unfolding central.transition peripheral.transition otherInput
-keypress-leaves Central m payload = at (m .phase)
-  where
-    at : (p : Phase) → central.transitionFrom m payload keypress p ≡ ret (ok m)
-    at phase.WaitingPairingRequest = refl
-    at phase.WaitingPairingResponse = refl
-    at (phase.WaitingPassKeyInput b) = refl
-    at phase.WaitingOobData = refl
-    at phase.WaitingPairingConfirm = refl
-    at (phase.WaitingPairingRandom c) = refl
-    at phase.WaitingLinkEncrypted = refl
-    at phase.WaitingIdentitityInformation = refl
-    at phase.WaitingIdentitityAddressInformation = refl
-    at (phase.ReceivingKeys n k) = same-ways (eqb n 0) (eqb n 1) (ret (ok m))
-    at phase.Success = refl
-    at (phase.Error e) = refl
-keypress-leaves Peripheral m payload = at (m .phase)
-  where
-    at : (p : Phase) → peripheral.transitionFrom m payload keypress p ≡ ret (ok m)
-    at phase.WaitingPairingRequest = refl
-    at phase.WaitingPairingResponse = refl
-    at (phase.WaitingPassKeyInput b) = refl
-    at phase.WaitingOobData = refl
-    at phase.WaitingPairingConfirm = refl
-    at (phase.WaitingPairingRandom c) = refl
-    at phase.WaitingLinkEncrypted = refl
-    at phase.WaitingIdentitityInformation = refl
-    at phase.WaitingIdentitityAddressInformation = refl
-    at (phase.ReceivingKeys n k) = same-ways (eqb n 0) (eqb n 1) (ret (ok m))
-    at phase.Success = refl
-    at (phase.Error e) = refl
+unfolding otherInput
+keypress-leaves r m payload =
+    not-awaited r m (commandCode command.KeypressNotification) payload
+    (record {
+      request = refl;
+      response = refl;
+      confirm = refl;
+      random = refl;
+      encryption = refl;
+      identification = refl;
+      identity = refl;
+      address = refl;
+    })
 
 -- no passkey is awaited
 abbrev pub NotTyping : Phase → Type 0

@@ -31,7 +31,7 @@ use Rattle.machine.specs.declared.Role.the-variants.{Central, Peripheral}
 use Rattle.protocol.specs.Handlers.{_>>=_, _>>_, fail, asked, wordIn, featuresIn, identificationIn, addressIn, reasonIn, otherInput, «store_confirm_bytes»}
 use Rattle.protocol.specs.LegacyCentral as central
 use Rattle.protocol.specs.LegacyPeripheral as peripheral
-use Rattle.protocol.proofs.Awaited.{transitionOf, same-ways}
+use Rattle.protocol.proofs.Awaited.{transitionOf, same-ways, not-awaited}
 
 abbrev standing : Phase → ConfirmPhaseData → PairingData → Machine
 standing p c d = record { phase = p; «confirm_data» = c; «pairing_data» = d }
@@ -173,31 +173,19 @@ link-not-encrypted Central (phase.Error e) c d payload = refl
 -- ---- PairingFailed from the peer, in any state: an empty one gives UnspecifiedReason
 
 pub failed-empty :
-    (r : Role) (p : Phase) (c : ConfirmPhaseData) (d : PairingData) →
-    transitionOf r (standing p c d) (received command.PairingFailed) []
-    ≡ fail d (Security reason.UnspecifiedReason)
-unfolding central.transition peripheral.transition otherInput reasonIn
-failed-empty Central phase.WaitingPairingRequest c d = refl
-failed-empty Central phase.WaitingPairingResponse c d = refl
-failed-empty Central (phase.WaitingPassKeyInput b) c d = refl
-failed-empty Central phase.WaitingOobData c d = refl
-failed-empty Central phase.WaitingPairingConfirm c d = refl
-failed-empty Central (phase.WaitingPairingRandom v) c d = refl
-failed-empty Central phase.WaitingLinkEncrypted c d = refl
-failed-empty Central phase.WaitingIdentitityInformation c d = refl
-failed-empty Central phase.WaitingIdentitityAddressInformation c d = refl
-failed-empty Central (phase.ReceivingKeys n k) c d = same-ways (eqb n 0) (eqb n 1) _
-failed-empty Central phase.Success c d = refl
-failed-empty Central (phase.Error e) c d = refl
-failed-empty Peripheral phase.WaitingPairingRequest c d = refl
-failed-empty Peripheral phase.WaitingPairingResponse c d = refl
-failed-empty Peripheral (phase.WaitingPassKeyInput b) c d = refl
-failed-empty Peripheral phase.WaitingOobData c d = refl
-failed-empty Peripheral phase.WaitingPairingConfirm c d = refl
-failed-empty Peripheral (phase.WaitingPairingRandom v) c d = refl
-failed-empty Peripheral phase.WaitingLinkEncrypted c d = refl
-failed-empty Peripheral phase.WaitingIdentitityInformation c d = refl
-failed-empty Peripheral phase.WaitingIdentitityAddressInformation c d = refl
-failed-empty Peripheral (phase.ReceivingKeys n k) c d = same-ways (eqb n 0) (eqb n 1) _
-failed-empty Peripheral phase.Success c d = refl
-failed-empty Peripheral (phase.Error e) c d = refl
+    (r : Role) (m : Machine) →
+    transitionOf r m (received command.PairingFailed) []
+    ≡ fail (m .«pairing_data») (Security reason.UnspecifiedReason)
+unfolding otherInput reasonIn
+failed-empty r m =
+    not-awaited r m (commandCode command.PairingFailed) []
+    (record {
+      request = refl;
+      response = refl;
+      confirm = refl;
+      random = refl;
+      encryption = refl;
+      identification = refl;
+      identity = refl;
+      address = refl;
+    })
