@@ -1,5 +1,5 @@
-//! Stands for pairing/peripheral.rs, the Secure Connections machine: a machine without states, so that
-//! the dispatch in pairing/mod.rs compiles. None is ever made.
+//! Stands for pairing/peripheral.rs and, through it, pairing/central.rs, the Secure Connections machines: a machine
+//! without states, so that the dispatch in pairing/mod.rs compiles. None is ever made.
 
 use rand_core::{CryptoRng, RngCore};
 
@@ -11,6 +11,10 @@ pub enum Pairing {}
 
 impl Pairing {
     pub fn new() -> Self {
+        unimplemented!()
+    }
+
+    pub fn new_idle() -> Self {
         unimplemented!()
     }
 
@@ -27,6 +31,10 @@ impl Pairing {
     }
 
     pub fn is_encrypted(&self) -> bool {
+        match *self {}
+    }
+
+    pub fn is_waiting_bonded_encryption(&self) -> bool {
         match *self {}
     }
 
