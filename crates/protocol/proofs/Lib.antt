@@ -13,3 +13,7 @@ pub mod Limits
 pub mod Leaving
 pub mod Example
 pub mod FirstMove
+pub mod Exchange
+pub mod Payloads
+pub mod FairReplies
+pub mod Pairing

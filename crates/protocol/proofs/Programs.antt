@@ -22,7 +22,7 @@ IsEnded (ended a) = Unit {0}
 IsEnded wanting = ⊥
 IsEnded refusing = ⊥
 
-abbrev IsWanting : {A : Type 0} → Ending A → Type 0
+abbrev pub IsWanting : {A : Type 0} → Ending A → Type 0
 IsWanting (ended a) = ⊥
 IsWanting wanting = Unit {0}
 IsWanting refusing = ⊥
@@ -36,7 +36,7 @@ OfEnding P refusing = Unit {0}
 is-ended : {A : Type 0} {e : Ending A} {a : A} → e ≡ ended a → IsEnded e
 is-ended h = subst IsEnded (sym h) tt
 
-is-wanting : {A : Type 0} {e : Ending A} → e ≡ wanting → IsWanting e
+pub is-wanting : {A : Type 0} {e : Ending A} → e ≡ wanting → IsWanting e
 is-wanting h = subst IsWanting (sym h) tt
 
 -- ---- where a program stands after one answer

@@ -4,11 +4,11 @@ use Prim.Native.Nat.{ℕ, _+_, _≤_, _<_}
 use mathlib.Core.Path.{_≡_, refl, sym, ap, _∙_, subst}
 use mathlib.Core.Bool.{Bool, true, false, cond, _&&_}
 use mathlib.Core.Option.{Option, none, some}
-use mathlib.Core.List.{List, _++_}
+use mathlib.Core.List.{List, _∷_, _++_}
 use native.Mathlib.Omega.{arith}
 use lib.Dec.{eqb, ltb}
 use lib.ListN.{length, getD, take, drop, length-append, length-drop, List·getD-append}
-use lib.Seq.{length-take-le, take-append-le, drop-append-le, getD-take}
+use lib.Seq.{length-take-le, take-all, take-append-le, drop-append-le, drop-append-add, getD-append-seam, getD-take}
 use borrow.Author.Tests.{ltb-true, eqb-true, lt-ltb, eq-eqb, ne-eqb}
 use Rattle.octets.specs.Octets.{fromOctets, wordOf}
 use Rattle.octets.proofs.Lists.{part-part}
@@ -34,7 +34,7 @@ use Rattle.protocol.proofs.Programs.{Reads}
 
 -- ---- every reply is the meaning of the body at its place
 
-abbrev meaning : (sort : Sort) → List ℕ → Found (Holds sort)
+abbrev pub meaning : (sort : Sort) → List ℕ → Found (Holds sort)
 meaning aVerdict b = found (deliveryOf (getD b 0 0))
 meaning aFlag b = allowed (flagOf (getD b 0 0)) (λ yes. yes)
 meaning anIrk b = found (record { 0 = wordOf b })
@@ -82,6 +82,38 @@ reply-meant (call.Draw d) s at = draw-meant d s at
 reply-meant (call.EnableEncryption k l n) s at = refl
 reply-meant call.EnableBondedEncryption s at = refl
 reply-meant (call.UpdateBondInformation b) s at = verdict-meant (answerAt s at (call.UpdateBondInformation b))
+
+-- ---- the length of a body, by the sort of its reply
+
+abbrev pub sortLength : Sort → ℕ
+sortLength aVerdict = 1
+sortLength aFlag = 1
+sortLength anIrk = 16
+sortLength anAddress = 8
+sortLength aNonce = 16
+sortLength aPassKey = 4
+sortLength anLtk = 16
+sortLength anEdiv = 2
+sortLength aRand = 8
+sortLength aBond = 52
+sortLength anOptionBond = 53
+
+pub answer-length : (c : Call) → answerLength c ≡ sortLength (replySort c)
+answer-length (call.SendPacket p) = refl
+answer-length (call.SendConnectionEvent e) = refl
+answer-length (call.Ask question.FindBond) = refl
+answer-length (call.Ask question.LocalIrk) = refl
+answer-length (call.Ask question.LocalIdentityAddress) = refl
+answer-length (call.Ask question.BondingFlag) = refl
+answer-length (call.Ask question.OobAvailable) = refl
+answer-length (call.Draw draw.Nonce) = refl
+answer-length (call.Draw draw.PassKey) = refl
+answer-length (call.Draw draw.LongTermKey) = refl
+answer-length (call.Draw draw.Ediv) = refl
+answer-length (call.Draw draw.Rand) = refl
+answer-length (call.EnableEncryption k l n) = refl
+answer-length call.EnableBondedEncryption = refl
+answer-length (call.UpdateBondInformation b) = refl
 
 -- ---- a body that stands there is a reply or forbidden, and never wanted
 
@@ -181,6 +213,11 @@ got-next next (found y) e = cc
 got-next next (stopped Wanted) e = absurd (subst IsGot (sym e) tt)
 got-next next (stopped Refused) e = absurd (subst IsGot (sym e) tt)
 
+got-found : {X : Type 0} (next : ℕ) (z : Found X) {x : X} {n : ℕ} → taken next z ≡ got x n → z ≡ found x
+got-found next (found y) e = cc
+got-found next (stopped Wanted) e = absurd (subst IsGot (sym e) tt)
+got-found next (stopped Refused) e = absurd (subst IsGot (sym e) tt)
+
 body-got : {X : Type 0} (next : ℕ) (y : Found (List ℕ)) (f : List ℕ → Found X) {x : X} {n : ℕ}
     → taken next (onFound y f) ≡ got x n → (b : List ℕ) × (y ≡ found b)
 body-got next (found b) f e = (b, refl)
@@ -223,6 +260,16 @@ module _ (c : Call) where
     reply-body : {x : Reply c} {n : ℕ} → replyAt c s at ≡ got x n → (b : List ℕ) × (answerAt s at c ≡ found b)
     reply-body e = body-got (at + answerSize c) (answerAt s at c) (meaning (replySort c)) (sym (reply-is s at) ∙ e)
 
+    -- what was read is what the octets behind the kind mean
+    pub reply-means : (x : Reply c) (n : ℕ) → replyAt c s at ≡ got x n
+        → (at + answerLength c < length s)
+        × (meaning (replySort c) (take (answerLength c) (drop (at + 1) s)) ≡ found x)
+    reply-means x n e =
+        let q = reply-body e in
+        let h = answer-says s at (q .1) in
+        let read = got-found (at + answerSize c) (meant c s at) (sym (reply-is s at) ∙ e) in
+        (h .0, ap (meaning (replySort c)) (h .2) ∙ rw (q .1) at read)
+
     reply-keeps : (w : List ℕ) (x : Reply c) (n : ℕ) → replyAt c s at ≡ got x n → replyAt c (s ++ w) at ≡ got x n
     reply-keeps w x n e =
         let q = reply-body e in
@@ -253,6 +300,20 @@ module _ (c : Call) where
       reply-is s (length s)
       ∙ ap (λ (y : Found (List ℕ)). taken (length s + answerSize c) (onFound y (meaning (replySort c))))
       (body-at-end s (kindOf c) (answerLength c))
+
+  -- a body of the right length behind the kind is read as what it means
+  pub reply-new : (s b : List ℕ) (x : Reply c) → length b ≡ answerLength c → meaning (replySort c) b ≡ found x
+      → replyAt c (s ++ (kindOf c ∷ b)) (length s) ≡ got x (length s + answerSize c)
+  reply-new s b x l e =
+      let t : List ℕ = s ++ (kindOf c ∷ b) in
+      let room : length s + answerLength c < length t = omega (arith, length-append s (kindOf c ∷ b)) in
+      let body : take (answerLength c) (drop (length s + 1) t) ≡ b =
+      ap (take (answerLength c)) (drop-append-add s (kindOf c ∷ b) 1) ∙ take-all (answerLength c) b (omega arith) in
+      let stands = body-stands t (length s) (kindOf c) (answerLength c) room (getD-append-seam s (kindOf c) b 0) in
+      let next = length s + answerSize c in
+      reply-is t (length s)
+      ∙ ap (λ (y : Found (List ℕ)). taken next (onFound y (meaning (replySort c)))) (stands ∙ ap found body)
+      ∙ ap (taken next) e
 
 -- ---- all of them
 
