@@ -2,16 +2,16 @@
 -- link are bounded, and where none is left both ends stand where the protocol finishes. Nothing here knows who the ends
 -- are or what they say. Assumes nothing.
 use Prim.Native.Nat.{ℕ, zero, suc, _≤_, _<_}
-use mathlib.Core.Path.{_≡_, refl, sym, ap, _∙_, subst}
+use mathlib.Core.Path.{_≡_, refl, sym, ap, _∙_, subst, subst₂}
 use mathlib.Core.Bool.{Bool, true, false}
 use mathlib.Core.List.{List, [], _∷_, _++_, tail}
 use mathlib.Core.Logic.{_⊎_, inl, inr}
 use mathlib.Core.Option.{Option, none, some}
 use native.Mathlib.Omega.{arith}
-use lib.ListN.{length, drop}
+use lib.ListN.{length, drop, length-append}
 use Rattle.protocol.specs.Program.{Prog, ret, ask, Taken, got, wants, refused, Ending, ended, wanting, refusing}
 use Rattle.protocol.specs.Program.{onTaken, play}
-use Rattle.protocol.proofs.Programs.{Reads, rest}
+use Rattle.protocol.proofs.Programs.{Reads, restOn, rest, along, wanting-last, rest-again, again-new}
 
 -- ---- words
 
@@ -48,8 +48,9 @@ pub record System : Type 1 where
   pub write : Call → Log → Log
   pub sent : Call → Option Packet
   pub raised : Log → Call → List Event
-  -- events that go before any packet, that are taken only behind a signal of the other end, and that are such a signal
-  pub urgent : Event → Bool
+  -- whether the events due go before any packet; events that are taken only behind a signal of the other end, and that
+  -- are such a signal
+  pub urgent : List Event → Bool
   pub gated : Party → Event → Bool
   pub signals : Party → Event → Bool
   -- the fair replies to a call, as data and as replies; the answers of a fair host to a program
@@ -71,8 +72,25 @@ abbrev pub plusOne : Bool → ℕ → ℕ
 plusOne true n = suc n
 plusOne false n = n
 
+other-other : (r : Party) → other (other r) ≡ r
+other-other opener = refl
+other-other replier = refl
+
+apart : (r s : Party) → Is r s → Is (other r) s → ⊥
+apart opener opener h k = k
+apart opener replier h k = h
+apart replier opener h k = h
+apart replier replier h k = k
+
+apart-back : (r s : Party) → Is r s → Is r (other s) → ⊥
+apart-back opener opener h k = k
+apart-back opener replier h k = h
+apart-back replier opener h k = h
+apart-back replier replier h k = k
+
 module _ (S : System) where
-  open System S using (Machine, Call, Reply, Octet, read, Packet, Event, Input, packet, event, step, Log, write, sent, raised, urgent, gated, signals, Fair, fairly, Host)
+  open System S using (Machine, Call, Reply, Octet, read, Packet, Event, Input, packet, event, step, Log, write, sent, raised)
+  open System S using (urgent, gated, signals, Fair, fairly, Host)
 
   abbrev pub Program : Type 0
   Program = Prog Call Reply Machine
@@ -160,7 +178,7 @@ module _ (S : System) where
     Idle X r g l m [] = Awaits X r g l m
     Idle X r g l m (e ∷ []) =
         Takes (gated r e) (signals r e) r g (λ g₁. X g₁ (counted l []) (step r m (event e)))
-        × Unless (urgent e) (Packets X r g l m)
+        × Unless (urgent (e ∷ [])) (Packets X r g l m)
     Idle X r g l m (e ∷ (e₁ ∷ v)) = Never
 
     -- in fewer than d moves of its own, whatever comes, the end does what the protocol says; the calls of the program are
@@ -174,6 +192,493 @@ module _ (S : System) where
     -- the same, as a type that is compared by its arguments alone
     pub record Follows (d : ℕ) (r : Party) (g : Protocol) (l : Local) (p : Program) : Type 1 where
       pub fits : Fits d r g l p
+
+    -- ---- a program on fair answers
+
+    -- each answer that is read is a fair reply
+    abbrev FairOn : (c : Call) → (Reply c → ℕ → Type 0) → Taken (Reply c) → Type 0
+    FairOn c F (got x n) = ((y : Fair c) × (x ≡ fairly c y)) × F x n
+    FairOn c F wants = Unit {0}
+    FairOn c F refused = ⊥
+
+    abbrev pub FairOf : List Octet → Program → ℕ → Type 0
+    FairOf s (ret m) at = Unit {0}
+    FairOf s (ask c k) at = FairOn c (λ x n. FairOf s (k x) n) (read c s at)
+
+    -- what is asked of the reading of answers and of hosts: a fair host's answers are fair, it may answer nothing yet, and
+    -- can always answer once more
+    pub record Hosts : Type 0 where
+      pub reads : Reads read
+      pub fair : (p : Program) (s : List Octet) → Host p s → FairOf s p 0
+      pub silent : (p : Program) → Host p []
+      pub more :
+          (p : Program) (s : List Octet) → Host p s → play read s p 0 .ending ≡ wanting →
+          (x : Octet) × (w : List Octet) × Host p (s ++ (x ∷ w))
+
+    -- a program on fair answers ends, or wants
+    stops :
+        (s : List Octet) (p : Program) (at : ℕ) → FairOf s p at →
+        ((m : Machine) × (play read s p at .ending ≡ ended m) × (rest read s p at ≡ ret m))
+        ⊎ ((c : Call) × (k : Reply c → Program) × (play read s p at .ending ≡ wanting) × (rest read s p at ≡ ask c k))
+    stops s =
+        along read s (λ p at. FairOf s p at →
+        ((m : Machine) × (play read s p at .ending ≡ ended m) × (rest read s p at ≡ ret m))
+        ⊎ ((c : Call) × (k : Reply c → Program) × (play read s p at .ending ≡ wanting) × (rest read s p at ≡ ask c k)))
+        (λ m at f. inl (m, refl, refl))
+        (λ c k at e f. inr (c, k, rw e refl, rw e refl))
+        (λ c k at e f. absurd (rw e at f))
+        (λ c k at x n e rec f. rw e (rec ((rw e at f) .1)))
+
+    -- what is left of it is fair on more answers
+    fair-again :
+        Reads read → (s w : List Octet) (p : Program) (at : ℕ) → FairOf (s ++ w) p at →
+        FairOf (s ++ w) (rest read s p at) (play read s p at .place)
+    fair-again law s w =
+        along read s (λ p at. FairOf (s ++ w) p at → FairOf (s ++ w) (rest read s p at) (play read s p at .place))
+        (λ m at f. tt)
+        (λ c k at e f. rw e f)
+        (λ c k at e f. rw e f)
+        (λ c k at x n e rec f. rw e (rec ((rw (law .keeps c s w at x n e) at f) .1)))
+
+    -- ---- two ends in step
+
+    -- what is on its way from one end, item by item, leads the protocol on to where Y holds
+    abbrev Along : Party → List Item → Protocol → (Protocol → Type 1) → Type 1
+    Along r [] g Y = Y g
+    Along r (i ∷ q) g Y = Emits r (some i) g (λ g₁. Along r q g₁ Y)
+
+    abbrev Empty {ℓ} : {X : Type ℓ} → List X → Type 0
+    Empty [] = Unit {0}
+    Empty (x ∷ v) = ⊥
+
+    -- the end r is at g, what is on its way to it leads the other on from there, and nothing is on its way back
+    abbrev Lags : Party → (to from : List Item) → (X Y : Protocol → Type 1) → Type 1
+    Lags r to from X Y = (g : Protocol) × Empty from × X g × Along (other r) to g Y
+
+    -- one of the two ends lags behind the other, or neither
+    abbrev Sync : Party → (to from : List Item) → (X Y : Protocol → Type 1) → Type 1
+    Sync r to from X Y = Lags r to from X Y ⊎ Lags (other r) from to Y X
+
+    turn : (r : Party) (to from : List Item) (X Y : Protocol → Type 1) → Sync r to from X Y → Sync (other r) from to Y X
+    turn opener to from X Y (inl h) = inr h
+    turn opener to from X Y (inr h) = inl h
+    turn replier to from X Y (inl h) = inr h
+    turn replier to from X Y (inr h) = inl h
+
+    emits-map :
+        (r : Party) (o : Option Item) (g : Protocol) {X Y : Protocol → Type 1} → ((g₁ : Protocol) → X g₁ → Y g₁) →
+        Emits r o g X → Emits r o g Y
+    emits-map r none g f h = f g h
+    emits-map r (some (some p)) (message s D pk K) f h = (h .0, h .1, h .2, f (K (h .1)) (h .3))
+    emits-map r (some (some p)) (signal s D pk K) f h = h
+    emits-map r (some (some p)) (finish F j) f h = h
+    emits-map r (some none) (message s D pk K) f h = h
+    emits-map r (some none) (signal s D pk K) f h = (h .0, f (message (other s) D pk K) (h .1))
+    emits-map r (some none) (finish F j) f h = h
+
+    emits-end : (r : Party) (o : Option Item) (g : Protocol) (X : Protocol → Type 1) → Emits r o g X → (g₁ : Protocol) × X g₁
+    emits-end r none g X h = (g, h)
+    emits-end r (some (some p)) (message s D pk K) X h = (K (h .1), h .3)
+    emits-end r (some (some p)) (signal s D pk K) X h = never h
+    emits-end r (some (some p)) (finish F j) X h = never h
+    emits-end r (some none) (message s D pk K) X h = never h
+    emits-end r (some none) (signal s D pk K) X h = (message (other s) D pk K, h .1)
+    emits-end r (some none) (finish F j) X h = never h
+
+    along-map :
+        (r : Party) (q : List Item) (g : Protocol) {X Y : Protocol → Type 1} → ((g₁ : Protocol) → X g₁ → Y g₁) →
+        Along r q g X → Along r q g Y
+    along-map r [] g f h = f g h
+    along-map r (i ∷ q) g f h = emits-map r (some i) g (λ g₁. along-map r q g₁ f) h
+
+    along-end : (r : Party) (q : List Item) (g : Protocol) (X : Protocol → Type 1) → Along r q g X → (g₁ : Protocol) × X g₁
+    along-end r [] g X h = (g, h)
+    along-end r (i ∷ q) g X h =
+        let z = emits-end r (some i) g (λ g₁. Along r q g₁ X) h in
+        along-end r q (z .0) X (z .1)
+
+    -- what an end emits joins what is on its way
+    along-emit :
+        (r : Party) (o : Option Item) (q : List Item) (g : Protocol) (X : Protocol → Type 1) →
+        Along r q g (λ g₁. Emits r o g₁ X) → Along r (q ++ optional o) g X
+    along-emit r none [] g X h = h
+    along-emit r (some i) [] g X h = h
+    along-emit r o (i ∷ q) g X h = emits-map r (some i) g (λ g₁. along-emit r o q g₁ X) h
+
+    -- where one end has something next, the other has not
+    not-both :
+        (r : Party) (i i₁ : Item) (g : Protocol) (X Y : Protocol → Type 1) →
+        Emits r (some i) g X → Emits (other r) (some i₁) g Y → ⊥
+    not-both r (some p) (some p₁) (message s D pk K) X Y h k = apart r s (h .0) (k .0)
+    not-both r (some p) none (message s D pk K) X Y h k = never k
+    not-both r none i₁ (message s D pk K) X Y h k = never h
+    not-both r (some p) i₁ (signal s D pk K) X Y h k = never h
+    not-both r none (some p) (signal s D pk K) X Y h k = never k
+    not-both r none none (signal s D pk K) X Y h k = apart r s (h .0) (k .0)
+    not-both r (some p) i₁ (finish F j) X Y h k = never h
+    not-both r none i₁ (finish F j) X Y h k = never h
+
+    -- the end r goes on, and emits nothing
+    onward :
+        (r : Party) (to from : List Item) {X X₁ Y : Protocol → Type 1} → ((g : Protocol) → X g → X₁ g) →
+        Sync r to from X Y → Sync r to from X₁ Y
+    onward r to from f (inl h) = inl (h .0, h .1, f (h .0) (h .2), h .3)
+    onward r to from f (inr h) = inr (h .0, h .1, h .2, along-map (other (other r)) from (h .0) f (h .3))
+
+    somewhere : (r : Party) (to from : List Item) (X Y : Protocol → Type 1) → Sync r to from X Y → (g : Protocol) × X g
+    somewhere r to from X Y (inl h) = (h .0, h .2)
+    somewhere r to from X Y (inr h) = along-end (other (other r)) from (h .0) X (h .3)
+
+    -- the end r emits
+    emit :
+        (r : Party) (o : Option Item) (to from : List Item) (X Y : Protocol → Type 1) →
+        Sync r to from (λ g. Emits r o g X) Y → Sync r to (from ++ optional o) X Y
+    emit r none to [] X Y (inl h) = inl h
+    emit r o to (i ∷ from) X Y (inl h) = absurd (h .1)
+    emit r (some i) [] [] X Y (inl h) = inr (h .0, tt, h .3, rw other-other (along-emit r (some i) [] (h .0) X (h .2)))
+    emit r (some i) (i₁ ∷ to) [] X Y (inl h) =
+        absurd (not-both r i i₁ (h .0) X (λ g. Along (other r) to g Y) (h .2) (h .3))
+    emit r o to from X Y (inr h) =
+        inr (h .0, h .1, h .2, rw other-other (along-emit r o from (h .0) X (rw other-other at (h .3))))
+
+    -- ---- what is on its way is what the link holds, in an order that the link forgets
+
+    abbrev Held : List Item → List Packet → (signs : ℕ) → Type 0
+    Held [] [] zero = Unit {0}
+    Held [] [] (suc n) = ⊥
+    Held [] (p ∷ w) n = ⊥
+    Held (some p ∷ q) [] n = ⊥
+    Held (some p ∷ q) (p₁ ∷ w) n = (p ≡ p₁) × Held q w n
+    Held (none ∷ q) w zero = ⊥
+    Held (none ∷ q) w (suc n) = Held q w n
+
+    held-sent :
+        (o : Option Packet) (q : List Item) (w : List Packet) (n : ℕ) → Held q w n →
+        Held (q ++ optional (sentItem o)) (w ++ optional o) n
+    held-sent none [] [] zero h = h
+    held-sent (some p) [] [] zero h = (refl, h)
+    held-sent o [] [] (suc n) h = absurd h
+    held-sent o [] (p ∷ w) n h = absurd h
+    held-sent o (some p ∷ q) [] n h = absurd h
+    held-sent o (some p ∷ q) (p₁ ∷ w) n h = (h .0, held-sent o q w n (h .1))
+    held-sent o (none ∷ q) w zero h = absurd h
+    held-sent o (none ∷ q) w (suc n) h = held-sent o q w n h
+
+    held-signal :
+        (b : Bool) (q : List Item) (w : List Packet) (n : ℕ) → Held q w n →
+        Held (q ++ optional (signalItem b)) w (plusOne b n)
+    held-signal true [] [] zero h = h
+    held-signal false [] [] zero h = h
+    held-signal b [] [] (suc n) h = absurd h
+    held-signal b [] (p ∷ w) n h = absurd h
+    held-signal b (some p ∷ q) [] n h = absurd h
+    held-signal b (some p ∷ q) (p₁ ∷ w) n h = (h .0, held-signal b q w n (h .1))
+    held-signal b (none ∷ q) w zero h = absurd h
+    held-signal true (none ∷ q) w (suc n) h = held-signal true q w n h
+    held-signal false (none ∷ q) w (suc n) h = held-signal false q w n h
+
+    held-nothing : (q : List Item) → Held q [] 0 → Empty q
+    held-nothing [] h = tt
+    held-nothing (some p ∷ q) h = h
+    held-nothing (none ∷ q) h = h
+
+    -- the oldest packet is the first item that is on its way, and leads the end r on
+    deliver :
+        (r : Party) (X : Protocol → Local → Program → Type 1) (l : Local) (m : Machine) (p : Packet) (w : List Packet)
+        (n : ℕ) (to from : List Item) (Y : Protocol → Type 1) →
+        Held to (p ∷ w) n → Sync r to from (λ g. Packets X r g l m) Y →
+        (q : List Item) × Held q w n × Sync r q from (λ g. X g (counted l (l .due)) (step r m (packet p))) Y
+    deliver r X l m p w n [] from Y k s = absurd k
+    deliver r X l m p w n (i ∷ to) from Y k (inr h) = absurd (h .1)
+    deliver r X l m p w n (some p₁ ∷ to) from Y k (inl h) = (to, k .1, inl (go (h .0) (h .2) (h .3)))
+      where
+        go :
+            (g : Protocol) → Packets X r g l m → Along (other r) (some p₁ ∷ to) g Y →
+            Lags r to from (λ g. X g (counted l (l .due)) (step r m (packet p))) Y
+        go (message s D pk K) t a =
+            let same : pk (a .1) ≡ p = sym (a .2) ∙ k .0 in
+            let taken = subst (λ z. X (K (a .1)) (counted l (l .due)) (step r m (packet z))) same (t (a .0) (a .1)) in
+            (K (a .1), h .1, taken, a .3)
+        go (signal s D pk K) t a = never a
+        go (finish F j) t a = never a
+    deliver r X l m p w zero (none ∷ to) from Y k (inl h) = absurd k
+    deliver r X l m p w (suc n) (none ∷ to) from Y k (inl h) = absurd (go (h .0) (h .3))
+      where
+        -- behind a signal comes a packet of the other end
+        behind-it :
+            (s : Party) (D : Type 0) (pk : D → Packet) (K : D → Protocol) (q : List Item) → Is (other r) s →
+            Along (other r) q (message (other s) D pk K) Y → Held q (p ∷ w) n → ⊥
+        behind-it s D pk K [] o a k = k
+        behind-it s D pk K (some p₁ ∷ q) o a k = apart-back (other r) s o (a .0)
+        behind-it s D pk K (none ∷ q) o a k = never a
+        go : (g : Protocol) → Along (other r) (none ∷ to) g Y → ⊥
+        go (message s D pk K) a = never a
+        go (signal s D pk K) a = behind-it s D pk K to (a .0) (a .1) k
+        go (finish F j) a = never a
+
+    -- a signal is taken by the event behind it
+    use-signal :
+        (r : Party) (X Y : Protocol → Type 1) (w : List Packet) (n : ℕ) (to from : List Item) →
+        Held to w (suc n) → Sync r to from (λ g. Behind r g X) Y → (q : List Item) × Held q w n × Sync r q from X Y
+    use-signal r X Y [] n [] from k s = absurd k
+    use-signal r X Y (p ∷ w) n [] from k s = absurd k
+    use-signal r X Y w n (i ∷ to) from k (inr h) = absurd (h .1)
+    use-signal r X Y w n (some p ∷ to) from k (inl h) = absurd (go (h .0) (h .2) (h .3))
+      where
+        go : (g : Protocol) → Behind r g X → Along (other r) (some p ∷ to) g Y → ⊥
+        go (message s D pk K) b a = never b
+        go (signal s D pk K) b a = never a
+        go (finish F j) b a = never a
+    use-signal r X Y w n (none ∷ to) from k (inl h) = (to, k, inl (go (h .0) (h .2) (h .3)))
+      where
+        go : (g : Protocol) → Behind r g X → Along (other r) (none ∷ to) g Y → Lags r to from X Y
+        go (message s D pk K) b a = never b
+        go (signal s D pk K) b a = (message (other s) D pk K, h .1, b .1, a .1)
+        go (finish F j) b a = never a
+
+    -- ---- a step of one end
+
+    -- the packets that calls send join a queue
+    abbrev pub sendAll : List Call → List Packet → List Packet
+    sendAll [] w = w
+    sendAll (c ∷ cs) w = sendAll cs (w ++ optional (sent c))
+
+    -- the end stands where its program is: at rest, or at a call that is listed and wants its reply
+    abbrev Stands : ℕ → Party → Protocol → Local → Program → Type 1
+    Stands d r g l (ret m) = Idle (λ g₁ l₁ p. Fits d r g₁ l₁ p) r g l m (l .due)
+    Stands d r g l (ask c k) = (x : Fair c) → Fits d r g l (k (fairly c x))
+
+    -- what a program comes to: less is left to do, and what it sent is on its way
+    abbrev Comes : ℕ → Party → Program → List Call → Local → (to : List Item) → List Packet → ℕ → (Protocol → Type 1) → Type 1
+    Comes d r p cs l to w n Y =
+        (d₁ : ℕ) × (d₁ < d) × (from : List Item) × Held from (sendAll cs w) n
+        × Sync r to from (λ g. Stands d₁ r g (noteAll cs l) p) Y
+
+    runs :
+        (d : ℕ) (r : Party) (s : List Octet) (p : Program) (at : ℕ) (l : Local) (to from : List Item) (w : List Packet)
+        (n : ℕ) (Y : Protocol → Type 1) →
+        FairOf s p at → Held from w n → Sync r to from (λ g. Fits d r g l p) Y →
+        Comes d r (rest read s p at) (play read s p at .calls) l to w n Y
+    unfolding Fits
+    runs zero r s p at l to from w n Y f k h = never (somewhere r to from (λ g. Never) Y h .1)
+    runs (suc d) r s (ret m) at l to from w n Y f k h = (d, omega arith, from, k, h)
+    runs (suc d) r s (ask c k) at l to from w n Y f held h = go (λ x j. runs d r s (k x) j) (read c s at) f
+      where
+        from₁ : List Item
+        from₁ = from ++ optional (sentItem (sent c))
+        held₁ : Held from₁ (w ++ optional (sent c)) n
+        held₁ = held-sent (sent c) from w n held
+        asked : Sync r to from₁ (λ g. (x : Fair c) → Fits d r g (note c l) (k (fairly c x))) Y
+        asked = emit r (sentItem (sent c)) to from (λ g. (x : Fair c) → Fits d r g (note c l) (k (fairly c x))) Y h
+        go :
+            ((x : Reply c) (j : ℕ) (l : Local) (to from : List Item) (w : List Packet) (n : ℕ) (Y : Protocol → Type 1) →
+            FairOf s (k x) j → Held from w n → Sync r to from (λ g. Fits d r g l (k x)) Y →
+            Comes d r (rest read s (k x) j) (play read s (k x) j .calls) l to w n Y) →
+            (z : Taken (Reply c)) → FairOn c (λ x j. FairOf s (k x) j) z →
+            Comes (suc d) r (restOn (ask c k) (λ x j. rest read s (k x) j) z)
+            (c ∷ onTaken at (λ x j. play read s (k x) j) z .calls) l to w n Y
+        go rec (got x j) f =
+            let given : Sync r to from₁ (λ g. Fits d r g (note c l) (k x)) Y =
+            onward r to from₁ (λ g h. rw (f .0 .1) (h (f .0 .0))) asked in
+            let z = rec x j (note c l) to from₁ (w ++ optional (sent c)) n Y (f .1) held₁ given in
+            (z .0, omega (arith, z .1), z .2, z .3, z .4)
+        go rec wants f = (d, omega arith, from₁, held₁, asked)
+        go rec refused f = absurd f
+
+    -- an open program that is given more answers
+    runs-on :
+        Reads read → (d : ℕ) (r : Party) (s : List Octet) (c : Call) (k : Reply c → Program) (at : ℕ) (l : Local)
+        (to from : List Item) (w : List Packet) (n : ℕ) (Y : Protocol → Type 1) →
+        at < length s → FairOf s (ask c k) at → Held from w n → Sync r to from (λ g. Stands d r g l (ask c k)) Y →
+        Comes d r (rest read s (ask c k) at) (tail (play read s (ask c k) at .calls)) l to w n Y
+    runs-on law d r s c k at l to from w n Y b f held h = go (read c s at) refl f
+      where
+        go :
+            (z : Taken (Reply c)) → read c s at ≡ z → FairOn c (λ x j. FairOf s (k x) j) z →
+            Comes d r (restOn (ask c k) (λ x j. rest read s (k x) j) z)
+            (onTaken at (λ x j. play read s (k x) j) z .calls) l to w n Y
+        go (got x j) e f =
+            runs d r s (k x) j l to from w n Y (f .1) held (onward r to from (λ g h. rw (f .0 .1) (h (f .0 .0))) h)
+        go wants e f = absurd (omega (arith, law .spent c s at e))
+        go refused e f = absurd f
+
+    -- an end is in no step, or in an open one: its machine and input, and the answers that it has had
+    pub data Act : Type 0 where
+      idle : Machine → Act
+      busy : Machine → Input → List Octet → Act
+
+    -- the act that a step leaves
+    abbrev pub actAfter : Machine → Input → List Octet → Ending Machine → Act
+    actAfter m i s (ended m₁) = idle m₁
+    actAfter m i s wanting = busy m i s
+    actAfter m i s refusing = idle m
+
+    -- one end as the link has it: its act, its own state, the packets queued to it, and the other end's signals not used
+    pub record Side : Type 0 where
+      pub act : Act
+      pub state : Local
+      pub queue : List Packet
+      pub signs : ℕ
+
+    abbrev pub side : Act → Local → List Packet → ℕ → Side
+    side a l w n = record { act = a; state = l; queue = w; signs = n }
+
+    -- what another end's calls and signal do to it
+    abbrev pub receives : List Call → Bool → Side → Side
+    receives cs b y = side (y .act) (y .state) (sendAll cs (y .queue)) (plusOne b (y .signs))
+
+    abbrev Holds : ℕ → Party → Protocol → Local → Act → Type 1
+    Holds d r g l (idle m) = Idle (λ g₁ l₁ p. Fits d r g₁ l₁ p) r g l m (l .due)
+    Holds d r g l (busy m i s) =
+        Host (step r m i) s × (play read s (step r m i) 0 .ending ≡ wanting)
+        × Stands d r g l (rest read s (step r m i) 0)
+
+    -- both ends, in step: with fewer than d and e moves of their own to go
+    abbrev pub InStep : Party → (d e : ℕ) → (x y : Side) → Type 1
+    InStep r d e x y =
+        (to : List Item) × (from : List Item) × Held to (x .queue) (x .signs) × Held from (y .queue) (y .signs)
+        × Sync r to from (λ g. Holds d r g (x .state) (x .act)) (λ g. Holds e (other r) g (y .state) (y .act))
+
+    pub in-step-turned : (r : Party) (d e : ℕ) (x y : Side) → InStep r d e x y → InStep (other r) e d y x
+    in-step-turned opener d e x y z = (z .1, z .0, z .3, z .2, turn opener (z .0) (z .1) _ _ (z .4))
+    in-step-turned replier d e x y z = (z .1, z .0, z .3, z .2, turn replier (z .0) (z .1) _ _ (z .4))
+
+    holds-after :
+        (d : ℕ) (r : Party) (g : Protocol) (l : Local) (m : Machine) (i : Input) (s : List Octet) →
+        Host (step r m i) s →
+        ((m₁ : Machine) × (play read s (step r m i) 0 .ending ≡ ended m₁) × (rest read s (step r m i) 0 ≡ ret m₁))
+        ⊎ ((c : Call) × (k : Reply c → Program) × (play read s (step r m i) 0 .ending ≡ wanting)
+        × (rest read s (step r m i) 0 ≡ ask c k)) →
+        Stands d r g l (rest read s (step r m i) 0) → Holds d r g l (actAfter m i s (play read s (step r m i) 0 .ending))
+    holds-after d r g l m i s host (inl z) h =
+        subst (λ e. Holds d r g l (actAfter m i s e)) (sym (z .1)) (subst (λ p. Stands d r g l p) (z .2) h)
+    holds-after d r g l m i s host (inr z) h =
+        subst (λ e. Holds d r g l (actAfter m i s e)) (sym (z .2)) (host, z .2, h)
+
+    -- the end of a move of r, by what its program comes to
+    closes :
+        Hosts → (r : Party) (d e : ℕ) (m : Machine) (i : Input) (s : List Octet) (cs : List Call) (l : Local)
+        (w : List Packet) (n : ℕ) (y : Side) (b : Bool) (to : List Item) →
+        Host (step r m i) s → Held to w n →
+        Comes d r (rest read s (step r m i) 0) cs l to (y .queue) (plusOne b (y .signs))
+        (λ g. Holds e (other r) g (y .state) (y .act)) →
+        (d₁ : ℕ) × (d₁ < d)
+        × InStep r d₁ e (side (actAfter m i s (play read s (step r m i) 0 .ending)) (noteAll cs l) w n) (receives cs b y)
+    closes H r d e m i s cs l w n y b to host held z =
+        let stop = stops s (step r m i) 0 (H .fair (step r m i) s host) in
+        (z .0, z .1, (to, z .2, held, z .3,
+        onward r to (z .2) (λ g h. holds-after (z .0) r g (noteAll cs l) m i s host stop h) (z .4)))
+
+    -- ---- each kind of move keeps the ends in step, and leaves the end that moved less to do
+
+    -- the calls of a step
+    abbrev pub callsOf : Party → Machine → Input → List Octet → List Call
+    callsOf r m i s = play read s (step r m i) 0 .calls
+
+    -- an end after a step of its own, with what is left of its events, packets and signals, and the new calls
+    abbrev pub sideAfter : Party → Machine → Input → List Octet → List Call → Local → List Packet → ℕ → Side
+    sideAfter r m i s cs l w n = side (actAfter m i s (play read s (step r m i) 0 .ending)) (noteAll cs l) w n
+
+    abbrev pub Kept : Party → (d e : ℕ) → (x y : Side) → Type 1
+    Kept r d e x y = (d₁ : ℕ) × (d₁ < d) × InStep r d₁ e x y
+
+    idle-packets :
+        (X : Protocol → Local → Program → Type 1) (r : Party) (g : Protocol) (l : Local) (m : Machine) (v : List Event) →
+        urgent v ≡ false → Idle X r g l m v → Packets X r g l m
+    idle-packets X r (message s D pk K) l m [] u h = h .1
+    idle-packets X r (signal s D pk K) l m [] u h = never h
+    idle-packets X r (finish F j) l m [] u h = tt
+    idle-packets X r g l m (e ∷ []) u h = subst (λ b. Unless b (Packets X r g l m)) u (h .1)
+    idle-packets X r g l m (e ∷ (e₁ ∷ v)) u h = never h
+
+    idle-event :
+        (X : Protocol → Local → Program → Type 1) (r : Party) (g : Protocol) (l : Local) (m : Machine) (v : List Event)
+        (e : Event) (earlier later : List Event) → v ≡ earlier ++ (e ∷ later) → Idle X r g l m v →
+        Takes (gated r e) (signals r e) r g (λ g₁. X g₁ (counted l (earlier ++ later)) (step r m (event e)))
+    idle-event X r g l m v e [] [] q h = subst (λ v. Idle X r g l m v) q h .0
+    idle-event X r g l m v e [] (e₁ ∷ later) q h = never (subst (λ v. Idle X r g l m v) q h)
+    idle-event X r g l m v e (e₁ ∷ []) later q h = never (subst (λ v. Idle X r g l m v) q h)
+    idle-event X r g l m v e (e₁ ∷ (e₂ ∷ earlier)) later q h = never (subst (λ v. Idle X r g l m v) q h)
+
+    module _ (H : Hosts) (r : Party) (d e : ℕ) (m : Machine) (l : Local) (w : List Packet) (s : List Octet) (y : Side) where
+      -- how the other end stands
+      abbrev There : Protocol → Type 1
+      There g = Holds e (other r) g (y .state) (y .act)
+
+      -- the oldest packet
+      pub packet-kept :
+          (n : ℕ) (p : Packet) → urgent (l .due) ≡ false → Host (step r m (packet p)) s →
+          InStep r d e (side (idle m) l (p ∷ w) n) y →
+          Kept r d e (sideAfter r m (packet p) s (callsOf r m (packet p) s) (counted l (l .due)) w n)
+          (receives (callsOf r m (packet p) s) false y)
+      packet-kept n p u host z =
+          let l₁ = counted l (l .due) in
+          let got = deliver r (Fits d r) l m p w n (z .0) (z .1) There (z .2)
+          (onward r (z .0) (z .1) (λ g h. idle-packets (Fits d r) r g l m (l .due) u h) (z .4)) in
+          closes H r d e m (packet p) s (callsOf r m (packet p) s) l₁ w n y false (got .0) host (got .1)
+          (runs d r s (step r m (packet p)) 0 l₁ (got .0) (z .1) (y .queue) (y .signs) There
+          (H .fair (step r m (packet p)) s host) (z .3) (got .2))
+
+      module _ (ε : Event) (earlier later : List Event) where
+        abbrev taken : List Call
+        taken = callsOf r m (event ε) s
+
+        -- an event, and the signal that it may be
+        pub event-kept :
+            (n : ℕ) → l .due ≡ earlier ++ (ε ∷ later) → gated r ε ≡ false → Host (step r m (event ε)) s →
+            InStep r d e (side (idle m) l w n) y →
+            Kept r d e (sideAfter r m (event ε) s taken (counted l (earlier ++ later)) w n) (receives taken (signals r ε) y)
+        event-kept n q u host z =
+            let l₁ = counted l (earlier ++ later) in
+            let p = step r m (event ε) in
+            let b = signals r ε in
+            let due = onward r (z .0) (z .1) {X₁ = λ g. Emits r (signalItem b) g (λ g₁. Fits d r g₁ l₁ p)} (λ g h.
+            subst (λ x. Takes x b r g (λ g₁. Fits d r g₁ l₁ p)) u
+            (idle-event (Fits d r) r g l m (l .due) ε earlier later q h)) (z .4) in
+            closes H r d e m (event ε) s taken l₁ w n y b (z .0) host (z .2)
+            (runs d r s p 0 l₁ (z .0) (z .1 ++ optional (signalItem b)) (y .queue) (plusOne b (y .signs)) There
+            (H .fair p s host) (held-signal b (z .1) (y .queue) (y .signs) (z .3))
+            (emit r (signalItem b) (z .0) (z .1) (λ g. Fits d r g l₁ p) There due))
+
+        -- an event behind a signal of the other end
+        pub behind-kept :
+            (n : ℕ) → l .due ≡ earlier ++ (ε ∷ later) → gated r ε ≡ true → Host (step r m (event ε)) s →
+            InStep r d e (side (idle m) l w (suc n)) y →
+            Kept r d e (sideAfter r m (event ε) s taken (counted l (earlier ++ later)) w n) (receives taken false y)
+        behind-kept n q u host z =
+            let l₁ = counted l (earlier ++ later) in
+            let p = step r m (event ε) in
+            let due = onward r (z .0) (z .1) {X₁ = λ g. Behind r g (λ g₁. Fits d r g₁ l₁ p)} (λ g h.
+            subst (λ x. Takes x (signals r ε) r g (λ g₁. Fits d r g₁ l₁ p)) u
+            (idle-event (Fits d r) r g l m (l .due) ε earlier later q h)) (z .4) in
+            let used = use-signal r (λ g. Fits d r g l₁ p) There w n (z .0) (z .1) (z .2) due in
+            closes H r d e m (event ε) s taken l₁ w n y false (used .0) host (used .1)
+            (runs d r s p 0 l₁ (used .0) (z .1) (y .queue) (y .signs) There (H .fair p s host) (z .3) (used .2))
+
+      -- an open step that is run again, on more answers
+      pub again-kept :
+          (n : ℕ) (i : Input) (x : Octet) (s₁ : List Octet) → Host (step r m i) (s ++ (x ∷ s₁)) →
+          InStep r d e (side (busy m i s) l w n) y →
+          let new = drop (length (callsOf r m i s)) (callsOf r m i (s ++ (x ∷ s₁))) in
+          Kept r d e (sideAfter r m i (s ++ (x ∷ s₁)) new l w n) (receives new false y)
+      again-kept n i x s₁ host z =
+          let p = step r m i in
+          let s₂ = s ++ (x ∷ s₁) in
+          let new = drop (length (callsOf r m i s)) (callsOf r m i s₂) in
+          let held = somewhere r (z .0) (z .1) (λ g. Holds d r g l (busy m i s)) There (z .4) .1 in
+          let q = wanting-last read (H .reads) s p 0 (held .1) in
+          let at = play read s p 0 .place in
+          let f = subst (λ t. FairOf s₂ t at) (q .4) (fair-again (H .reads) s (x ∷ s₁) p 0 (H .fair p s₂ host)) in
+          let longer : at < length s₂ = omega (arith, q .5, length-append s (x ∷ s₁)) in
+          let stands = onward r (z .0) (z .1) {X₁ = λ g. Stands d r g l (ask (q .1) (q .2))} (λ g h.
+          subst (λ t. Stands d r g l t) (q .4) (h .2)) (z .4) in
+          let on = runs-on (H .reads) d r s₂ (q .1) (q .2) at l (z .0) (z .1) (y .queue) (y .signs) There longer f
+          (z .3) stands in
+          let left = rest-again read (H .reads) s (x ∷ s₁) p 0 ∙ ap (λ t. rest read s₂ t at) (q .4) in
+          let listed = again-new read (H .reads) s (x ∷ s₁) p 0 (held .1)
+          ∙ ap (λ t. tail (play read s₂ t at .calls)) (q .4) in
+          closes H r d e m i s₂ new l w n y false (z .0) host (z .2)
+          (subst₂ (λ t cs. Comes d r t cs l (z .0) (y .queue) (y .signs) There) (sym left) (sym listed) on)
 
 abbrev pub locally : (S : System) → S .Log → List (S .Event) → ℕ → Local S
 locally S l v n = record { log = l; due = v; inputs = n }
@@ -223,7 +728,7 @@ module _ {S : System} {Goal : S .Machine → Local S → S .Machine → Local S 
   -- an event that goes before any packet
   pub urgently :
       {d : ℕ} {r : Party} {g : Protocol S Goal} {l : Log} {e : Event} {n : ℕ} {m : Machine} →
-      gated r e ≡ false → signals r e ≡ false → urgent e ≡ true →
+      gated r e ≡ false → signals r e ≡ false → urgent (e ∷ []) ≡ true →
       Follows S Goal d r g (locally S l [] (suc n)) (step r m (event e)) →
       Follows S Goal (suc d) r g (locally S l (e ∷ []) n) (ret m)
   unfolding Fits
@@ -233,7 +738,7 @@ module _ {S : System} {Goal : S .Machine → Local S → S .Machine → Local S 
   pub owing :
       {d : ℕ} {r : Party} {D : Type 0} {pk : D → Packet} {K : D → Protocol S Goal} {l : Log} {e : Event} {n : ℕ}
       {m : Machine} →
-      gated r e ≡ false → signals r e ≡ false → urgent e ≡ false →
+      gated r e ≡ false → signals r e ≡ false → urgent (e ∷ []) ≡ false →
       Follows S Goal d r (Protocol.message r D pk K) (locally S l [] (suc n)) (step r m (event e)) →
       Follows S Goal (suc d) r (Protocol.message r D pk K) (locally S l (e ∷ []) n) (ret m)
   unfolding Fits
@@ -243,7 +748,7 @@ module _ {S : System} {Goal : S .Machine → Local S → S .Machine → Local S 
   pub either :
       {d : ℕ} {r : Party} {D : Type 0} {pk : D → Packet} {K : D → Protocol S Goal} {l : Log} {e : Event} {n : ℕ}
       {m : Machine} →
-      gated r e ≡ false → signals r e ≡ false → urgent e ≡ false →
+      gated r e ≡ false → signals r e ≡ false → urgent (e ∷ []) ≡ false →
       Follows S Goal d r (Protocol.message (other r) D pk K) (locally S l [] (suc n)) (step r m (event e)) →
       ((a : D) → Follows S Goal d r (K a) (locally S l (e ∷ []) (suc n)) (step r m (packet (pk a)))) →
       Follows S Goal (suc d) r (Protocol.message (other r) D pk K) (locally S l (e ∷ []) n) (ret m)
@@ -254,7 +759,7 @@ module _ {S : System} {Goal : S .Machine → Local S → S .Machine → Local S 
   pub signalling :
       {d : ℕ} {r : Party} {D : Type 0} {pk : D → Packet} {K : D → Protocol S Goal} {l : Log} {e : Event} {n : ℕ}
       {m : Machine} →
-      gated r e ≡ false → signals r e ≡ true → urgent e ≡ false →
+      gated r e ≡ false → signals r e ≡ true → urgent (e ∷ []) ≡ false →
       Follows S Goal d r (Protocol.message (other r) D pk K) (locally S l [] (suc n)) (step r m (event e)) →
       Follows S Goal (suc d) r (Protocol.signal r D pk K) (locally S l (e ∷ []) n) (ret m)
   unfolding Fits
@@ -264,7 +769,7 @@ module _ {S : System} {Goal : S .Machine → Local S → S .Machine → Local S 
   pub behind :
       {d : ℕ} {r : Party} {D : Type 0} {pk : D → Packet} {K : D → Protocol S Goal} {l : Log} {e : Event} {n : ℕ}
       {m : Machine} →
-      gated r e ≡ true → urgent e ≡ false →
+      gated r e ≡ true → urgent (e ∷ []) ≡ false →
       Follows S Goal d r (Protocol.message (other (other r)) D pk K) (locally S l [] (suc n)) (step r m (event e)) →
       Follows S Goal (suc d) r (Protocol.signal (other r) D pk K) (locally S l (e ∷ []) n) (ret m)
   unfolding Fits

@@ -1,12 +1,13 @@
--- Fair replies as data: what a fair host's octets may say to a call, and that there is always something that they may say. Assumes nothing.
-use Prim.Native.Nat.{ℕ, _+_, _<_, _^_}
+-- Fair replies as data: what a fair host's octets may say to a call, and that there is always something that they may
+-- say. Assumes nothing.
+use Prim.Native.Nat.{ℕ, _+_, _<_}
 use mathlib.Core.Path.{_≡_, refl, sym, ap, _∙_, subst}
 use mathlib.Core.Bool.{Bool, true, false, cond}
-use mathlib.Core.Option.{Option, none, some}
+use mathlib.Core.Option.{some}
 use mathlib.Core.List.{List, [], _∷_, _++_, reverse, map}
 use native.Mathlib.Omega.{arith}
 use borrow.Author.Tests.{eqb-true, le-ltb}
-use lib.Dec.{eqb, ltb, lit<}
+use lib.Dec.{eqb}
 use lib.ListN.{length, take, drop, length-append, length-drop}
 use lib.Seq.{length-take-le}
 use Rattle.octets.specs.declared.Word128.{Word128}
@@ -25,15 +26,16 @@ use Rattle.bond.specs.declared.OptionBond.{OptionBond}
 use Rattle.host.specs.Calls.{kindOf, bodyLengths, lengthIn}
 use Rattle.host.specs.declared.call.Call.{Call}
 use Rattle.host.proofs.Writing.{body-length}
-use Rattle.answer.specs.Answers.{answerLength, Found, found, passKeyMax}
+use Rattle.answer.specs.Answers.{answerLength, found, passKeyMax}
 use Rattle.answer.specs.declared.AddressResult.the-variants as address-result
 use Rattle.answer.specs.declared.BondResult.the-variants as bond-result
 use Rattle.answer.specs.declared.OptionBondResult.the-variants as option-result
 use Rattle.machine.specs.declared.Machine.{Machine}
 use Rattle.protocol.specs.Program.{ret, ask, got, wanting, play}
-use Rattle.protocol.specs.Ops.{delivered, Sort, aVerdict, aFlag, anIrk, anAddress, aNonce, aPassKey, anLtk, anEdiv, aRand}
-use Rattle.protocol.specs.Ops.{aBond, anOptionBond, Holds, replySort, Reply, replyAt, answerSize, Program}
-use Rattle.protocol.specs.FairLink.{Shared, AreOctets, FairReply, FairTaken, FairAnswers}
+use Rattle.protocol.specs.Ops.{delivered, Sort, aVerdict, aFlag, anIrk, anAddress, aNonce, aPassKey, anLtk}
+use Rattle.protocol.specs.Ops.{anEdiv, aRand, aBond, anOptionBond, Holds, replySort, Reply, replyAt, answerSize}
+use Rattle.protocol.specs.Ops.{Program}
+use Rattle.protocol.specs.FairLink.{Shared, AreOctets, FairReply, FairAnswers}
 use Rattle.protocol.proofs.Programs.{is-wanting, along}
 use Rattle.protocol.proofs.Replies.{meaning, sortLength, answer-length, reply-means, reply-spent, reply-at-end}
 use Rattle.protocol.proofs.Replies.{reply-new, reads}
@@ -92,6 +94,7 @@ number-read : (n : ℕ) (b : List ℕ) → Octets b → length b ≡ n → Numbe
 number-read n b o l = ap fromOctets (ap (λ (k : ℕ). toOctets k (fromOctets b)) (sym l) ∙ to-from b o)
 
 -- ---- a fair reply is such data
+
 said : {X : Type 0} (P : X → Type 0) {x y : X} → found x ≡ found y → P x → P y
 said P {x} {y} e p = let same : x ≡ y = cc in subst P same p
 
@@ -143,10 +146,11 @@ fairNumber shared anOptionBond = 0
 abbrev fairBody : Shared → Sort → List ℕ
 fairBody shared sort = toOctets (sortLength sort) (fairNumber shared sort)
 
+-- behind the kind
 abbrev fairAnswer : Shared → Call → List ℕ
 fairAnswer shared c = kindOf c ∷ fairBody shared (replySort c)
 
--- it means a fair reply
+-- the body means a fair reply
 body-fair : (shared : Shared) (sort : Sort)
     → (x : Holds sort) × (meaning sort (fairBody shared sort) ≡ found x) × FairReply shared sort x
 unfolding bondOf
@@ -165,6 +169,18 @@ body-fair shared aRand = (0, refl, tt)
 body-fair shared aBond = (_, refl, tt)
 body-fair shared anOptionBond = (_, refl, tt)
 
+-- .. and is read as that behind any octets
+answer-fair : (shared : Shared) (c : Call) (s : List ℕ)
+    → (x : Reply c) × (replyAt c (s ++ fairAnswer shared c) (length s) ≡ got x (length (s ++ fairAnswer shared c)))
+    × FairReply shared (replySort c) x
+answer-fair shared c s =
+    let sort = replySort c in
+    let q = body-fair shared sort in
+    let long = length-to (sortLength sort) (fairNumber shared sort) ∙ sym (answer-length c) in
+    let end : length s + answerSize c ≡ length (s ++ fairAnswer shared c) =
+    omega (arith, long, length-append s (fairAnswer shared c)) in
+    (q .0, reply-new c s (fairBody shared sort) (q .0) long (q .1) ∙ ap (got (q .0)) end, q .2)
+
 -- the kinds of calls are octets
 kind-listed : (l : List (ℕ × ℕ)) (kind : ℕ) {n : ℕ} → AreOctets (map (λ x. x .0) l) → lengthIn l kind ≡ some n
     → kind < 256
@@ -179,18 +195,6 @@ kind-listed (x ∷ l) kind {n} o e = go (kind-listed l kind (o .1)) (eqb kind (x
 kind-octet : (c : Call) → kindOf c < 256
 kind-octet c = kind-listed bodyLengths (kindOf c) (omega arith) (body-length c)
 
--- behind any octets it is read, to its end
-answer-fair : (shared : Shared) (c : Call) (s : List ℕ)
-    → (x : Reply c) × (replyAt c (s ++ fairAnswer shared c) (length s) ≡ got x (length (s ++ fairAnswer shared c)))
-    × FairReply shared (replySort c) x
-answer-fair shared c s =
-    let sort = replySort c in
-    let q = body-fair shared sort in
-    let long = length-to (sortLength sort) (fairNumber shared sort) ∙ sym (answer-length c) in
-    let end : length s + answerSize c ≡ length (s ++ fairAnswer shared c) =
-    omega (arith, long, length-append s (fairAnswer shared c)) in
-    (q .0, reply-new c s (fairBody shared sort) (q .0) long (q .1) ∙ ap (got (q .0)) end, q .2)
-
 -- ---- and to an open step one answer more
 
 -- where the answers end, they are fair
@@ -198,6 +202,7 @@ fair-at-end : (shared : Shared) (p : Program Machine) (s : List ℕ) → FairAns
 fair-at-end shared (ret m) s = tt
 fair-at-end shared (ask c k) s = rw (reply-at-end c s) tt
 
+-- along the play: what was read before is read again, then the answer to the call that wants one
 more-at : (shared : Shared) (s : List ℕ) (p : Program Machine) (at : ℕ) → FairAnswers shared p s at
     → play replyAt s p at .ending ≡ wanting → (c : Call) × FairAnswers shared p (s ++ fairAnswer shared c) at
 more-at shared s =

@@ -35,7 +35,7 @@ use Rattle.machine.specs.declared.Role.the-variants.{Central, Peripheral}
 use Rattle.protocol.specs.Ops.{aNonce, anLtk, anEdiv, aRand, replySort, Reply, replyAt}
 use Rattle.protocol.specs.Handlers.{commandOctets, namesEncryptionKey, namesIdentityKey, passKeyTk, «addr_type_flag»}
 use Rattle.protocol.specs.Step.{handleInput}
-use Rattle.protocol.specs.FairLink.{Start, AreOctets, Shared, shows, FairAnswers, QueuedPacket, Due, passKey, oobData, encryptionOn, Given, aPacket, anEvent, inputOf, payloadOf, requestOf, sentBy, hasListed, isReport}
+use Rattle.protocol.specs.FairLink.{Start, AreOctets, Shared, shows, FairAnswers, QueuedPacket, Due, passKey, oobData, encryptionOn, Given, aPacket, anEvent, inputOf, payloadOf, requestOf, sentBy, hasListed, reportDue}
 use Rattle.protocol.specs.FairRuns.{typesAs, entries, bothBond, countNamed, keysNamed, keys, responseIn, responsesIn, Encryption, encryptionIn, encryptionsIn, excepted, HeadEnds, negotiated, SameBonds}
 use Rattle.protocol.proofs.Exchange.{Party, opener, replier, System, Local, Protocol, Follows, Program}
 use Rattle.protocol.proofs.FairReplies.{FairData, fairly}
@@ -121,7 +121,7 @@ pairing shared =
       write = listed;
       sent = λ c. firstOf (sentBy c);
       raised = raisedBy;
-      urgent = isReport;
+      urgent = reportDue;
       gated = oobOf;
       signals = oobBefore;
       Fair = λ c. FairData (replySort c);

@@ -2,11 +2,11 @@
 -- where the play before it stopped, and answers left over do not matter. Assumes nothing.
 use Prim.Native.Nat.{ℕ, _+_, _≤_}
 use mathlib.Core.Path.{_≡_, refl, sym, ap, _∙_, subst}
-use mathlib.Core.List.{List, [], _∷_, _++_, append-assoc}
+use mathlib.Core.List.{List, [], _∷_, _++_, tail, append-assoc}
 use native.Mathlib.Nat.{le-trans}
 use native.Mathlib.Omega.{arith}
 use lib.ListN.{length, take, drop, take-append-drop}
-use lib.Seq.{take-take}
+use lib.Seq.{take-take, drop-append-seam}
 use Rattle.protocol.specs.Program.{Prog, ret, ask, Taken, got, wants, refused, Ending, ended, wanting, refusing}
 use Rattle.protocol.specs.Program.{Played, onTaken, listing, play}
 
@@ -41,7 +41,7 @@ is-wanting h = subst IsWanting (sym h) tt
 
 -- ---- where a program stands after one answer
 
-abbrev restOn : {C X A : Type 0} {R : C → Type 0} → Prog C R A → (X → ℕ → Prog C R A) → Taken X → Prog C R A
+abbrev pub restOn : {C X A : Type 0} {R : C → Type 0} → Prog C R A → (X → ℕ → Prog C R A) → Taken X → Prog C R A
 restOn p k (got x n) = k x n
 restOn p k wants = p
 restOn p k refused = p
@@ -238,6 +238,16 @@ module _ {C : Type 0} {R : C → Type 0} {O : Type 0} (read : (c : C) → List O
           (λ c k at e. rw e)
           (λ c k at x n e rec. rw (law .keeps c s w at x n e, e) (ap (listing c) rec))
 
+      -- .. so that the same is left of it
+      pub rest-again : (s w : List O) (p : Prog C R A) (at : ℕ)
+          → rest (s ++ w) p at ≡ rest (s ++ w) (rest s p at) (play read s p at .place)
+      rest-again s w =
+          along s (λ p at. rest (s ++ w) p at ≡ rest (s ++ w) (rest s p at) (play read s p at .place))
+          (λ a at. refl)
+          (λ c k at e. rw e)
+          (λ c k at e. rw e)
+          (λ c k at x n e rec. rw (law .keeps c s w at x n e, e) rec)
+
       module _ (s w : List O) (p : Prog C R A) (at : ℕ) where
         pub again-ending :
             play read (s ++ w) p at .ending ≡ play read (s ++ w) (rest s p at) (play read s p at .place) .ending
@@ -268,3 +278,16 @@ module _ {C : Type 0} {R : C → Type 0} {O : Type 0} (read : (c : C) → List O
                   ∙ ap (λ (z : Prog C R A). answered s p at ++ play read (s ++ w) z n .calls) (q .3)
                   ∙ sym (ap (λ (l : List C). l ++ new) (q .2) ∙ append-assoc (answered s p at) (q .0 ∷ []) new),
             )
+
+        -- what is new is what the rest lists behind the call that was wanted
+        pub again-new : play read s p at .ending ≡ wanting
+            → drop (length (play read s p at .calls)) (play read (s ++ w) p at .calls)
+            ≡ tail (play read (s ++ w) (rest s p at) (play read s p at .place) .calls)
+        again-new h =
+            let q = wanting-calls s p at h in
+            let n = play read s p at .place in
+            let new : List C = onTaken n (λ x j. play read (s ++ w) (q .1 x) j) (read (q .0) (s ++ w) n) .calls in
+            let whole = again-calls
+            ∙ ap (λ (z : Prog C R A). answered s p at ++ play read (s ++ w) z n .calls) (q .3)
+            ∙ sym (append-assoc (answered s p at) (q .0 ∷ []) new) in
+            rw (whole, q .2, q .3) (drop-append-seam (answered s p at ++ (q .0 ∷ [])) new)
