@@ -72,6 +72,14 @@ abbrev pub plusOne : Bool → ℕ → ℕ
 plusOne true n = suc n
 plusOne false n = n
 
+itself : (r : Party) → Is r r
+itself opener = tt
+itself replier = tt
+
+not-other : (r : Party) → Is (other r) r → ⊥
+not-other opener h = h
+not-other replier h = h
+
 other-other : (r : Party) → other (other r) ≡ r
 other-other opener = refl
 other-other replier = refl
@@ -100,6 +108,9 @@ module _ (S : System) where
     pub log : Log
     pub due : List Event
     pub inputs : ℕ
+
+  abbrev pub locally : Log → List Event → ℕ → Local
+  locally log v n = record { log = log; due = v; inputs = n }
 
   abbrev pub note : Call → Local → Local
   note c l = record { log = write c (l .log); due = l .due ++ raised (l .log) c; inputs = l .inputs }
@@ -680,22 +691,206 @@ module _ (S : System) where
           closes H r d e m i s₂ new l w n y false (z .0) host (z .2)
           (subst₂ (λ t cs. Comes d r t cs l (z .0) (y .queue) (y .signs) There) (sym left) (sym listed) on)
 
-abbrev pub locally : (S : System) → S .Log → List (S .Event) → ℕ → Local S
-locally S l v n = record { log = l; due = v; inputs = n }
+    -- ---- some move is allowed, or the protocol has finished
+
+    -- a move that an end may make; with no answers yet, or with one more
+    pub data Can (r : Party) (x : Side) : Type 0 where
+      packet-can :
+          (m : Machine) (p : Packet) (w : List Packet) → x .act ≡ idle m → x .queue ≡ p ∷ w → x .state .due ≡ [] → Can r x
+      event-can :
+          (m : Machine) (ε : Event) → x .act ≡ idle m → x .state .due ≡ ε ∷ [] → gated r ε ≡ false → Can r x
+      behind-can :
+          (m : Machine) (ε : Event) (n : ℕ) → x .act ≡ idle m → x .state .due ≡ ε ∷ [] → gated r ε ≡ true →
+          x .signs ≡ suc n → Can r x
+      again-can :
+          (m : Machine) (i : Input) (s : List Octet) → x .act ≡ busy m i s → Host (step r m i) s →
+          play read s (step r m i) 0 .ending ≡ wanting → Can r x
+
+    -- an event that is due waits for a signal
+    abbrev Waits : Party → List Event → Type 0
+    Waits r [] = Unit {0}
+    Waits r (ε ∷ v) = gated r ε ≡ true
+
+    -- nothing to do: no open step, no packet, no signal, and what is due waits for one
+    pub record Rests (r : Party) (x : Side) : Type 0 where
+      pub machine : Machine
+      pub isIdle : x .act ≡ idle machine
+      pub noPacket : x .queue ≡ []
+      pub noSign : x .signs ≡ 0
+      pub waits : Waits r (x .state .due)
+
+    -- a packet is queued, and an event waits for a signal: no protocol has such a place
+    no-packet :
+        (r : Party) (X : Protocol → Local → Program → Type 1) (l : Local) (m : Machine) (ε : Event) (p : Packet)
+        (w : List Packet) (to from : List Item) (Y : Protocol → Type 1) →
+        gated r ε ≡ true → Held to (p ∷ w) 0 → Sync r to from (λ g. Idle X r g l m (ε ∷ [])) Y → ⊥
+    no-packet r X l m ε p w [] from Y u k s = k
+    no-packet r X l m ε p w (none ∷ to) from Y u k s = k
+    no-packet r X l m ε p w (some p₁ ∷ to) from Y u k (inr h) = h .1
+    no-packet r X l m ε p w (some p₁ ∷ to) from Y u k (inl h) =
+        go (h .0) (subst (λ b. Takes b (signals r ε) r (h .0) Next) u (h .2 .0)) (h .3)
+      where
+        Next : Protocol → Type 1
+        Next g = X g (counted l []) (step r m (event ε))
+        go : (g : Protocol) → Behind r g Next → Along (other r) (some p₁ ∷ to) g Y → ⊥
+        go (message s D pk K) b a = never b
+        go (signal s D pk K) b a = never a
+        go (finish F j) b a = never b
+
+    -- a signal is on its way, and nothing is due: no protocol has such a place
+    no-sign :
+        (r : Party) (X : Protocol → Local → Program → Type 1) (l : Local) (m : Machine) (n : ℕ) (to from : List Item)
+        (Y : Protocol → Type 1) → Held to [] (suc n) → Sync r to from (λ g. Idle X r g l m []) Y → ⊥
+    no-sign r X l m n [] from Y k s = k
+    no-sign r X l m n (some p ∷ to) from Y k s = k
+    no-sign r X l m n (none ∷ to) from Y k (inr h) = h .1
+    no-sign r X l m n (none ∷ to) from Y k (inl h) = go (h .0) (h .2) (h .3)
+      where
+        go : (g : Protocol) → Awaits X r g l m → Along (other r) (none ∷ to) g Y → ⊥
+        go (message s D pk K) b a = never a
+        go (signal s D pk K) b a = never b
+        go (finish F j) b a = never a
+
+    either-bool : (b : Bool) → (b ≡ true) ⊎ (b ≡ false)
+    either-bool true = inl refl
+    either-bool false = inr refl
+
+    moves :
+        (r : Party) (d : ℕ) (a : Act) (log : Log) (v : List Event) (k : ℕ) (w : List Packet) (n : ℕ) (to from : List Item)
+        (Y : Protocol → Type 1) → Held to w n →
+        Sync r to from (λ g. Holds d r g (locally log v k) a) Y →
+        Can r (side a (locally log v k) w n) ⊎ Rests r (side a (locally log v k) w n)
+    moves r d (busy m i s) log v k w n to from Y held h =
+        let z = somewhere r to from (λ g. Holds d r g (locally log v k) (busy m i s)) Y h .1 in
+        inl (again-can m i s refl (z .0) (z .1))
+    moves r d (idle m) log [] k (p ∷ w) n to from Y held h = inl (packet-can m p w refl refl refl)
+    moves r d (idle m) log [] k [] zero to from Y held h =
+        inr (record { machine = m; isIdle = refl; noPacket = refl; noSign = refl; waits = tt })
+    moves r d (idle m) log [] k [] (suc n) to from Y held h =
+        absurd (no-sign r (Fits d r) (locally log [] k) m n to from Y held h)
+    moves r d (idle m) log (ε ∷ []) k w n to from Y held h = go (either-bool (gated r ε)) w n held
+      where
+        go :
+            (gated r ε ≡ true) ⊎ (gated r ε ≡ false) → (w : List Packet) (n : ℕ) → Held to w n →
+            Can r (side (idle m) (locally log (ε ∷ []) k) w n) ⊎ Rests r (side (idle m) (locally log (ε ∷ []) k) w n)
+        go (inr u) w n z = inl (event-can m ε refl refl u)
+        go (inl u) w (suc n) z = inl (behind-can m ε n refl refl u refl)
+        go (inl u) (p ∷ w) zero z = absurd (no-packet r (Fits d r) (locally log (ε ∷ []) k) m ε p w to from Y u z h)
+        go (inl u) [] zero z =
+            inr (record { machine = m; isIdle = refl; noPacket = refl; noSign = refl; waits = u })
+    moves r d (idle m) log (ε ∷ (ε₁ ∷ v)) k w n to from Y held h =
+        never (somewhere r to from (λ g. Never) Y h .1)
+
+    can-or-rests :
+        (r : Party) (d : ℕ) (x : Side) (to from : List Item) (Y : Protocol → Type 1) → Held to (x .queue) (x .signs) →
+        Sync r to from (λ g. Holds d r g (x .state) (x .act)) Y → Can r x ⊎ Rests r x
+    can-or-rests r d x to from Y held h =
+        moves r d (x .act) (x .state .log) (x .state .due) (x .state .inputs) (x .queue) (x .signs) to from Y held h
+
+    -- an end that rests is not the one whose turn it is, and has nothing due where the protocol finishes
+    module _ (d : ℕ) (r : Party) (l : Local) (m : Machine) where
+      rests-not-speaks :
+          (D : Type 0) (pk : D → Packet) (K : D → Protocol) (v : List Event) → Waits r v →
+          Idle (Fits d r) r (message r D pk K) l m v → ⊥
+      rests-not-speaks D pk K [] u h = not-other r (h .0)
+      rests-not-speaks D pk K (ε ∷ []) u h =
+          never (subst (λ b. Takes b (signals r ε) r (message r D pk K) (λ g. Fits d r g (counted l []) (step r m (event ε))))
+          u (h .0))
+      rests-not-speaks D pk K (ε ∷ (ε₁ ∷ v)) u h = never h
+
+      rests-not-signals :
+          (D : Type 0) (pk : D → Packet) (K : D → Protocol) (v : List Event) → Waits r v →
+          Idle (Fits d r) r (signal r D pk K) l m v → ⊥
+      rests-not-signals D pk K [] u h = never h
+      rests-not-signals D pk K (ε ∷ []) u h =
+          not-other r (subst (λ b. Takes b (signals r ε) r (signal r D pk K) (λ g. Fits d r g (counted l []) (step r m (event ε))))
+          u (h .0) .0)
+      rests-not-signals D pk K (ε ∷ (ε₁ ∷ v)) u h = never h
+
+      rests-finished :
+          (F : Party → Machine → Local → Type 0)
+          (j : (m : Machine) (l : Local) (m₁ : Machine) (l₁ : Local) → F opener m l → F replier m₁ l₁ → Goal m l m₁ l₁)
+          (v : List Event) → Waits r v → Idle (Fits d r) r (finish F j) l m v → (v ≡ []) × F r m l
+      rests-finished F j [] u h = (refl, h .0)
+      rests-finished F j (ε ∷ []) u h =
+          never (subst (λ b. Takes b (signals r ε) r (finish F j) (λ g. Fits d r g (counted l []) (step r m (event ε)))) u (h .0))
+      rests-finished F j (ε ∷ (ε₁ ∷ v)) u h = never h
+
+    -- what is left where no move is: nothing is queued, due or open, and the goal holds
+    pub record Over (x y : Side) : Type 0 where
+      pub machine : Machine
+      pub machine₁ : Machine
+      pub isIdle : x .act ≡ idle machine
+      pub isIdle₁ : y .act ≡ idle machine₁
+      pub noPacket : x .queue ≡ []
+      pub noPacket₁ : y .queue ≡ []
+      pub noneDue : x .state .due ≡ []
+      pub noneDue₁ : y .state .due ≡ []
+      pub goal : Goal machine (x .state) machine₁ (y .state)
+
+    over :
+        (d e : ℕ) (g : Protocol) (l l₁ : Local) (m m₁ : Machine) → Waits opener (l .due) → Waits replier (l₁ .due) →
+        Holds d opener g l (idle m) → Holds e replier g l₁ (idle m₁) →
+        (l .due ≡ []) × (l₁ .due ≡ []) × Goal m l m₁ l₁
+    over d e (message opener D pk K) l l₁ m m₁ u u₁ h h₁ = absurd (rests-not-speaks d opener l m D pk K (l .due) u h)
+    over d e (message replier D pk K) l l₁ m m₁ u u₁ h h₁ = absurd (rests-not-speaks e replier l₁ m₁ D pk K (l₁ .due) u₁ h₁)
+    over d e (signal opener D pk K) l l₁ m m₁ u u₁ h h₁ = absurd (rests-not-signals d opener l m D pk K (l .due) u h)
+    over d e (signal replier D pk K) l l₁ m m₁ u u₁ h h₁ = absurd (rests-not-signals e replier l₁ m₁ D pk K (l₁ .due) u₁ h₁)
+    over d e (finish F j) l l₁ m m₁ u u₁ h h₁ =
+        let t = rests-finished d opener l m F j (l .due) u h in
+        let t₁ = rests-finished e replier l₁ m₁ F j (l₁ .due) u₁ h₁ in
+        (t .0, t₁ .0, j m l m₁ l₁ (t .1) (t₁ .1))
+
+    -- both ends rest: nothing is on its way, so that they are at one place of the protocol
+    meet :
+        (to from : List Item) (X Y : Protocol → Type 1) → Empty to → Empty from → Sync opener to from X Y →
+        (g : Protocol) × X g × Y g
+    meet [] [] X Y a b (inl h) = (h .0, h .2, h .3)
+    meet [] [] X Y a b (inr h) = (h .0, h .3, h .2)
+    meet (i ∷ to) from X Y a b s = absurd a
+    meet [] (i ∷ from) X Y a b s = absurd b
+
+    -- the theorem: of two ends in step, one can move, or all is over
+    pub progress : (d e : ℕ) (x y : Side) → InStep opener d e x y → (Can opener x ⊎ Can replier y) ⊎ Over x y
+    progress d e x y z =
+        go
+        (can-or-rests opener d x (z .0) (z .1) (λ g. Holds e replier g (y .state) (y .act)) (z .2) (z .4))
+        (can-or-rests replier e y (z .1) (z .0) (λ g. Holds d opener g (x .state) (x .act)) (z .3)
+        (turn opener (z .0) (z .1) (λ g. Holds d opener g (x .state) (x .act)) (λ g. Holds e replier g (y .state) (y .act)) (z .4)))
+      where
+        go : Can opener x ⊎ Rests opener x → Can replier y ⊎ Rests replier y → (Can opener x ⊎ Can replier y) ⊎ Over x y
+        go (inl c) b = inl (inl c)
+        go (inr a) (inl c) = inl (inr c)
+        go (inr a) (inr b) =
+            let none-to = held-nothing (z .0) (subst₂ (Held (z .0)) (a .noPacket) (a .noSign) (z .2)) in
+            let none-from = held-nothing (z .1) (subst₂ (Held (z .1)) (b .noPacket) (b .noSign) (z .3)) in
+            let at = meet (z .0) (z .1) (λ g. Holds d opener g (x .state) (x .act)) (λ g. Holds e replier g (y .state) (y .act))
+            none-to none-from (z .4) in
+            let end = over d e (at .0) (x .state) (y .state) (a .machine) (b .machine) (a .waits) (b .waits)
+            (subst (λ c. Holds d opener (at .0) (x .state) c) (a .isIdle) (at .1))
+            (subst (λ c. Holds e replier (at .0) (y .state) c) (b .isIdle) (at .2)) in
+            inr (record {
+              machine = a .machine;
+              machine₁ = b .machine;
+              isIdle = a .isIdle;
+              isIdle₁ = b .isIdle;
+              noPacket = a .noPacket;
+              noPacket₁ = b .noPacket;
+              noneDue = end .0;
+              noneDue₁ = end .1;
+              goal = end .2;
+            })
+
+    -- a start: the opener's first packet is on its way
+    pub start :
+        {d e : ℕ} {D : Type 0} {pk : D → Packet} {K : D → Protocol} {l l₁ : Local} {m m₁ : Machine} (a : D) →
+        Follows (suc d) opener (K a) l (ret m) → Follows (suc e) replier (message opener D pk K) l₁ (ret m₁) →
+        InStep opener d e (side (idle m) l [] 0) (side (idle m₁) l₁ (pk a ∷ []) 0)
+    unfolding Fits
+    start {D = D} {pk = pk} {K = K} a t h =
+        ([], some (pk a) ∷ [], tt, (refl, tt), inr (message opener D pk K, tt, h .fits, (tt, a, refl, t .fits)))
 
 -- ---- the rules by which an end is shown to follow a protocol
-
-itself : (r : Party) → Is r r
-itself opener = tt
-itself replier = tt
-
-back : (r : Party) → Is (other r) (other r)
-back opener = tt
-back replier = tt
-
-not-other : (r : Party) → Is (other r) r → ⊥
-not-other opener h = h
-not-other replier h = h
 
 module _ {S : System} {Goal : S .Machine → Local S → S .Machine → Local S → Type 0} where
   open System S using (Machine, Call, Reply, Packet, Event, packet, event, step, Log, sent, urgent, gated, signals, Fair, fairly)
@@ -723,7 +918,7 @@ module _ {S : System} {Goal : S .Machine → Local S → S .Machine → Local S 
       ((a : D) → Follows S Goal d r (K a) (locally S l [] (suc n)) (step r m (packet (pk a)))) →
       Follows S Goal (suc d) r (Protocol.message (other r) D pk K) (locally S l [] n) (ret m)
   unfolding Fits
-  takes {r = r} h = record { fits = (back r, λ o a. h a .fits) }
+  takes {r = r} h = record { fits = (itself (other r), λ o a. h a .fits) }
 
   -- an event that goes before any packet
   pub urgently :
@@ -773,7 +968,7 @@ module _ {S : System} {Goal : S .Machine → Local S → S .Machine → Local S 
       Follows S Goal d r (Protocol.message (other (other r)) D pk K) (locally S l [] (suc n)) (step r m (event e)) →
       Follows S Goal (suc d) r (Protocol.signal (other r) D pk K) (locally S l (e ∷ []) n) (ret m)
   unfolding Fits
-  behind {r = r} a c h = record { fits = rw (a, c) ((back r, h .fits), tt) }
+  behind {r = r} a c h = record { fits = rw (a, c) ((itself (other r), h .fits), tt) }
 
   -- the end
   pub finished :
