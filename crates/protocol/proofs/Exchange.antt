@@ -216,15 +216,10 @@ module _ (S : System) where
     FairOf s (ret m) at = Unit {0}
     FairOf s (ask c k) at = FairOn c (λ x n. FairOf s (k x) n) (read c s at)
 
-    -- what is asked of the reading of answers and of hosts: a fair host's answers are fair, it may answer nothing yet, and
-    -- can always answer once more
+    -- what is asked of the reading of answers, and of hosts: a fair host's answers are fair
     pub record Hosts : Type 0 where
       pub reads : Reads read
       pub fair : (p : Program) (s : List Octet) → Host p s → FairOf s p 0
-      pub silent : (p : Program) → Host p []
-      pub more :
-          (p : Program) (s : List Octet) → Host p s → play read s p 0 .ending ≡ wanting →
-          (x : Octet) × (w : List Octet) × Host p (s ++ (x ∷ w))
 
     -- a program on fair answers ends, or wants
     stops :

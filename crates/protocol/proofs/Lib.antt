@@ -17,3 +17,5 @@ pub mod Exchange
 pub mod Payloads
 pub mod FairReplies
 pub mod Pairing
+pub mod FairSides
+pub mod FairMoves
