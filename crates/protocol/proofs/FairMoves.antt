@@ -2,7 +2,7 @@
 -- allowed, or all is over. Assumes nothing.
 use Prim.Native.Nat.{ℕ, suc, _+_, _≤_, _<_}
 use mathlib.Core.Path.{_≡_, refl, sym, ap, _∙_, subst, subst₂}
-use mathlib.Core.Bool.{Bool, true, false, not, _&&_}
+use mathlib.Core.Bool.{Bool, true, false, not, _&&_, true≢false}
 use mathlib.Core.List.{List, [], _∷_, _++_, append-assoc}
 use mathlib.Core.Logic.{_⊎_, inl, inr}
 use mathlib.Core.Option.{Option, none, some}
@@ -17,7 +17,8 @@ use Rattle.protocol.specs.declared.Outcome.the-variants as outcome
 use Rattle.protocol.specs.Program.{ret, ask, Taken, got, wants, refused}
 use Rattle.protocol.specs.Ops.{replySort, Reply, replyAt, Program}
 use Rattle.protocol.specs.Step.{playOf}
-use Rattle.protocol.specs.FairLink.{Start, Shared, AreOctets, FairAnswers, QueuedPacket, Due, passKey, oobData, encryptionOn, Given, aPacket, anEvent, OpenStep, End, Link, endOf, ofAll, sentBy, hasListed, madeDueByAll, machineAt, stepAt, callsAt, FairHost, openAfter, hadOobAfter, endAfter, receives, linkAfter, MoveKind, anInput, aReRun, reportDue, MayTake, Move, takePacket, takeEvent, runAgain, countInput}
+use Rattle.protocol.specs.FairLink.{Start, Shared, AreOctets, FairAnswers, QueuedPacket, Due, passKey, oobData, encryptionOn, Given, aPacket, anEvent, OpenStep, End, Link, endOf, ofAll, sentBy, hasListed, madeDueByAll, machineAt, stepAt, callsAt, FairHost, openAfter, hadOobAfter, endAfter, receives, linkAfter, MoveKind, anInput, aReRun, reportDue, MayTake, Move, takePacket, takeEvent, runAgain, outcomeOf, countInput}
+use Rattle.protocol.specs.FairRuns.{NotRefused}
 use Rattle.protocol.proofs.Programs.{along}
 use Rattle.protocol.proofs.Replies.{reads}
 use Rattle.protocol.proofs.Allowed.{no-answers}
@@ -25,7 +26,7 @@ use Rattle.protocol.proofs.FairReplies.{fair-reply, more-answers}
 use Rattle.protocol.proofs.Exchange.{Party, opener, replier, other, plusOne, locally, counted, FairOf, Hosts, side, InStep, in-step-turned, sideAfter, callsOf, Kept, packet-kept, event-kept, behind-kept, again-kept}
 use Rattle.protocol.proofs.Exchange.{receives as received}
 use Rattle.protocol.proofs.Pairing.{roleOf, summary, oobOf, oobBefore, pairing, Agreed}
-use Rattle.protocol.proofs.FairSides.{actOf, sideOf, note-all, send-all, KnownGiven, AllKnown, all-known, act-after, one, oobs, oobs-append, oobs-made-by-all, OobOnce}
+use Rattle.protocol.proofs.FairSides.{actOf, sideOf, note-all, send-all, KnownGiven, AllKnown, all-known, act-after, not-refused, one, oobs, oobs-append, oobs-made-by-all, OobOnce}
 
 module _ (shared : Shared) (s : Start) where
   -- ---- hosts are fair
@@ -50,15 +51,29 @@ module _ (shared : Shared) (s : Start) where
   KnownOpen none = Unit {0}
   KnownOpen (some o) = KnownGiven shared s (o .given)
 
+  -- an open step on OOB data has had it
+  abbrev HadBy : Option OpenStep → Bool → Type 0
+  HadBy none had = Unit {0}
+  HadBy (some o) had = hadOobAfter (o .given) had ≡ had
+
   pub record Sound (e : End) : Type 0 where
     pub queued : AllKnown shared s (e .queue)
     pub opened : KnownOpen (e .openStep)
+    pub hadBy : HadBy (e .openStep) (e .hadOob)
     pub oobOnce : OobOnce e
 
   open-known : (o : Outcome) (g : Given) (answers : List ℕ) → KnownGiven shared s g → KnownOpen (openAfter o g answers)
   open-known outcome.Ended g answers k = tt
   open-known outcome.Wants g answers k = k
   open-known (outcome.Refused n) g answers k = tt
+
+  open-had : (o : Outcome) (g : Given) (answers : List ℕ) (had : Bool) → HadBy (openAfter o g answers) (hadOobAfter g had)
+  open-had outcome.Ended g answers had = tt
+  open-had outcome.Wants (aPacket p) answers had = refl
+  open-had outcome.Wants (anEvent passKey) answers had = refl
+  open-had outcome.Wants (anEvent oobData) answers had = refl
+  open-had outcome.Wants (anEvent encryptionOn) answers had = refl
+  open-had (outcome.Refused n) g answers had = tt
 
   -- the end that moved
   after-sound :
@@ -70,6 +85,7 @@ module _ (shared : Shared) (s : Start) where
       record {
         queued = q;
         opened = open-known (stepAt shared r L g answers .stepped .outcome) g answers k;
+        hadBy = open-had (stepAt shared r L g answers .stepped .outcome) g answers (endOf r L .hadOob);
         oobOnce =
             omega (arith, o, oobs-append due (madeDueByAll (endOf r L .calls) new), oobs-made-by-all new (endOf r L .calls));
       }
@@ -77,7 +93,12 @@ module _ (shared : Shared) (s : Start) where
   -- the other end
   receives-sound : (new : List Call) (e : End) → Sound e → Sound (receives new e)
   receives-sound new e h =
-      record { queued = all-known shared s (e .queue) new (h .queued); opened = h .opened; oobOnce = h .oobOnce }
+      record {
+        queued = all-known shared s (e .queue) new (h .queued);
+        opened = h .opened;
+        hadBy = h .hadBy;
+        oobOnce = h .oobOnce;
+      }
 
   receives-side :
       (new : List Call) (e : End) (b : Bool) (k n : ℕ) →
@@ -194,3 +215,278 @@ module _ (shared : Shared) (s : Start) where
         (side (pairing shared) (Agreed shared s) (actOf shared s (this .machine) y)
         (locally (pairing shared) (summary (this .calls)) (this .due) k) (this .queue) n)
         (sideOf shared s k₂ n₂ that)) o z))
+
+  -- ---- events: what is due and what was had
+
+  one-most : (b : Bool) → one b ≤ 1
+  one-most true = omega arith
+  one-most false = omega arith
+
+  event-oobs :
+      (ε : Due) (earlier later due : List Due) (had : Bool) (x : Bool) → due ≡ earlier ++ (ε ∷ later) →
+      oobs due + one had ≡ one x → oobs (earlier ++ later) + one (hadOobAfter (anEvent ε) had) ≡ one x
+  event-oobs passKey earlier later due had x q o =
+      omega (arith, o, ap oobs q, oobs-append earlier (passKey ∷ later), oobs-append earlier later)
+  event-oobs oobData earlier later due had x q o =
+      omega (arith, o, ap oobs q, one-most x, oobs-append earlier (oobData ∷ later), oobs-append earlier later)
+  event-oobs encryptionOn earlier later due had x q o =
+      omega (arith, o, ap oobs q, oobs-append earlier (encryptionOn ∷ later), oobs-append earlier later)
+
+  -- OOB data that is due was not had
+  not-had :
+      (earlier later due : List Due) (had : Bool) (x : Bool) → due ≡ earlier ++ (oobData ∷ later) →
+      oobs due + one had ≡ one x → had ≡ false
+  not-had earlier later due true x q o =
+      absurd (omega (arith, o, ap oobs q, one-most x, oobs-append earlier (oobData ∷ later)))
+  not-had earlier later due false x q o = refl
+
+  -- ---- the link, in step
+
+  -- the head's signal that the terminal has not used
+  abbrev signs : (terminalHad headHad : Bool) → ℕ
+  signs terminalHad headHad = one (headHad && not terminalHad)
+
+  pub record Ok (d e inputs : ℕ) (L : Link) : Type 1 where
+    pub terminalInputs : ℕ
+    pub headInputs : ℕ
+    pub total : terminalInputs + headInputs ≡ inputs
+    pub inStep :
+        InStep (pairing shared) (Agreed shared s) opener d e
+        (sideOf shared s terminalInputs (signs (L .terminal .hadOob) (L .head .hadOob)) (L .terminal))
+        (sideOf shared s headInputs 0 (L .head))
+    pub terminalSound : Sound (L .terminal)
+    pub headSound : Sound (L .head)
+    pub headFirst : L .terminal .hadOob ≡ true → L .head .hadOob ≡ true
+
+  -- fewer moves are left after it
+  abbrev pub Fewer : (d e inputs : ℕ) → Link → Type 1
+  Fewer d e inputs L = (d₁ : ℕ) × (e₁ : ℕ) × (d₁ + e₁ < d + e) × Ok d₁ e₁ inputs L
+
+  module _ (L : Link) (d e n : ℕ) (h : Ok d e n L) where
+    abbrev signsNow : ℕ
+    signsNow = signs (L .terminal .hadOob) (L .head .hadOob)
+
+    -- the head's side first
+    head-in-step :
+        InStep (pairing shared) (Agreed shared s) replier e d
+        (sideOf shared s (h .headInputs) 0 (L .head)) (sideOf shared s (h .terminalInputs) signsNow (L .terminal))
+    head-in-step =
+        in-step-turned (pairing shared) (Agreed shared s) opener d e
+        (sideOf shared s (h .terminalInputs) signsNow (L .terminal)) (sideOf shared s (h .headInputs) 0 (L .head))
+        (h .inStep)
+
+    -- a move of the terminal
+    module _ (g : Given) (answers : List ℕ) (queue : List QueuedPacket) (due : List Due) (new : List Call) where
+      terminal-moved :
+          (k : ℕ) →
+          After opener L (L .head) d e (h .terminalInputs) (h .headInputs) 0 g answers queue due new k
+          (signs (hadOobAfter g (L .terminal .hadOob)) (L .head .hadOob)) 0 →
+          KnownGiven shared s g → AllKnown shared s queue →
+          oobs due + one (hadOobAfter g (L .terminal .hadOob)) ≡ one (hasListed 0x25 (L .terminal .calls)) →
+          (hadOobAfter g (L .terminal .hadOob) ≡ true → L .head .hadOob ≡ true) →
+          Fewer d e (k + h .headInputs) (linkAfter shared Central L g answers queue due new)
+      terminal-moved k z known queued o first =
+          (z .0, e, omega (arith, z .1), record {
+            terminalInputs = k;
+            headInputs = h .headInputs;
+            total = refl;
+            inStep = z .2;
+            terminalSound = after-sound Central L g answers queue due new known queued o;
+            headSound = receives-sound new (L .head) (h .headSound);
+            headFirst = first;
+          })
+
+      -- a move of the head
+      head-moved :
+          (k : ℕ) →
+          After replier L (L .terminal) e d (h .headInputs) (h .terminalInputs) signsNow g answers queue due new k 0
+          (signs (L .terminal .hadOob) (hadOobAfter g (L .head .hadOob))) →
+          KnownGiven shared s g → AllKnown shared s queue →
+          oobs due + one (hadOobAfter g (L .head .hadOob)) ≡ one (hasListed 0x25 (L .head .calls)) →
+          (L .terminal .hadOob ≡ true → hadOobAfter g (L .head .hadOob) ≡ true) →
+          Fewer d e (h .terminalInputs + k) (linkAfter shared Peripheral L g answers queue due new)
+      head-moved k z known queued o first =
+          let n₁ = signs (L .terminal .hadOob) (hadOobAfter g (L .head .hadOob)) in
+          (d, z .0, omega (arith, z .1), record {
+            terminalInputs = h .terminalInputs;
+            headInputs = k;
+            total = refl;
+            inStep =
+                in-step-turned (pairing shared) (Agreed shared s) replier (z .0) d
+                (sideOf shared s k 0 (endAfter shared Peripheral L g answers queue due new))
+                (sideOf shared s (h .terminalInputs) n₁ (receives new (L .terminal))) (z .2);
+            terminalSound = receives-sound new (L .terminal) (h .terminalSound);
+            headSound = after-sound Peripheral L g answers queue due new known queued o;
+            headFirst = first;
+          })
+
+    open-given :
+        (x : End) (g : Given) (answers : List ℕ) → Sound x → x .openStep ≡ some (record { given = g; answers = answers }) →
+        KnownGiven shared s g
+    open-given x g answers k o = subst KnownOpen o (k .opened)
+
+    first-known :
+        (x : End) (p : QueuedPacket) (queue : List QueuedPacket) → Sound x → x .queue ≡ p ∷ queue →
+        KnownGiven shared s (aPacket p) × AllKnown shared s queue
+    first-known x p queue k q = subst (AllKnown shared s) q (k .queued)
+
+    -- counted as the link counts
+    recounted : (m₁ m₂ : ℕ) (L₁ : Link) → m₁ ≡ m₂ → Fewer d e m₁ L₁ → Fewer d e m₂ L₁
+    recounted m₁ m₂ L₁ q z = subst (λ m. Fewer d e m L₁) q z
+
+    module _ (ε : Due) (earlier later : List Due) (answers : List ℕ) where
+      terminal-event :
+          L .terminal .due ≡ earlier ++ (ε ∷ later) →
+          After opener L (L .head) d e (h .terminalInputs) (h .headInputs) 0 (anEvent ε) answers (L .terminal .queue)
+          (earlier ++ later) (callsAt shared Central L (anEvent ε) answers) (suc (h .terminalInputs))
+          (signs (hadOobAfter (anEvent ε) (L .terminal .hadOob)) (L .head .hadOob)) 0 →
+          (hadOobAfter (anEvent ε) (L .terminal .hadOob) ≡ true → L .head .hadOob ≡ true) →
+          Fewer d e (suc n) (linkAfter shared Central L (anEvent ε) answers (L .terminal .queue) (earlier ++ later)
+          (callsAt shared Central L (anEvent ε) answers))
+      terminal-event q z first =
+          recounted (suc (h .terminalInputs) + h .headInputs) (suc n) _ (omega (arith, h .total))
+          (terminal-moved (anEvent ε) answers (L .terminal .queue) (earlier ++ later)
+          (callsAt shared Central L (anEvent ε) answers) (suc (h .terminalInputs)) z tt (h .terminalSound .queued)
+          (event-oobs ε earlier later (L .terminal .due) (L .terminal .hadOob) (hasListed 0x25 (L .terminal .calls)) q
+          (h .terminalSound .oobOnce))
+          first)
+
+      head-event :
+          L .head .due ≡ earlier ++ (ε ∷ later) →
+          After replier L (L .terminal) e d (h .headInputs) (h .terminalInputs) signsNow (anEvent ε) answers (L .head .queue)
+          (earlier ++ later) (callsAt shared Peripheral L (anEvent ε) answers) (suc (h .headInputs)) 0
+          (signs (L .terminal .hadOob) (hadOobAfter (anEvent ε) (L .head .hadOob))) →
+          (L .terminal .hadOob ≡ true → hadOobAfter (anEvent ε) (L .head .hadOob) ≡ true) →
+          Fewer d e (suc n) (linkAfter shared Peripheral L (anEvent ε) answers (L .head .queue) (earlier ++ later)
+          (callsAt shared Peripheral L (anEvent ε) answers))
+      head-event q z first =
+          recounted (h .terminalInputs + suc (h .headInputs)) (suc n) _ (omega (arith, h .total))
+          (head-moved (anEvent ε) answers (L .head .queue) (earlier ++ later)
+          (callsAt shared Peripheral L (anEvent ε) answers) (suc (h .headInputs)) z tt (h .headSound .queued)
+          (event-oobs ε earlier later (L .head .due) (L .head .hadOob) (hasListed 0x25 (L .head .calls)) q
+          (h .headSound .oobOnce))
+          first)
+
+    -- the terminal's OOB data: the head's signal is used
+    terminal-oob :
+        (earlier later : List Due) (answers : List ℕ) → L .terminal .openStep ≡ none →
+        L .terminal .due ≡ earlier ++ (oobData ∷ later) → L .head .hadOob ≡ true →
+        FairHost shared Central L (anEvent oobData) answers →
+        Fewer d e (suc n) (linkAfter shared Central L (anEvent oobData) answers (L .terminal .queue) (earlier ++ later)
+        (callsAt shared Central L (anEvent oobData) answers))
+    terminal-oob earlier later answers o q u f =
+        let unhad = not-had earlier later (L .terminal .due) (L .terminal .hadOob) (hasListed 0x25 (L .terminal .calls)) q
+        (h .terminalSound .oobOnce) in
+        let before : signsNow ≡ 1 = rw (u, unhad) refl in
+        let after : signs true (L .head .hadOob) ≡ 0 = rw u refl in
+        terminal-event oobData earlier later answers q
+        (subst (λ x. After opener L (L .head) d e (h .terminalInputs) (h .headInputs) 0 (anEvent oobData) answers
+        (L .terminal .queue) (earlier ++ later) (callsAt shared Central L (anEvent oobData) answers)
+        (suc (h .terminalInputs)) x 0) (sym after)
+        (behind-step opener L (L .head) d e (h .terminalInputs) (h .headInputs) 0 oobData earlier later answers 0 o q refl f
+        (subst (λ x. InStepThere opener L (L .head) d e (h .terminalInputs) (h .headInputs) 0 x) before (h .inStep))))
+        (λ had. u)
+
+    -- the head's OOB data: it signals
+    head-oob :
+        (earlier later : List Due) (answers : List ℕ) → L .head .openStep ≡ none →
+        L .head .due ≡ earlier ++ (oobData ∷ later) → FairHost shared Peripheral L (anEvent oobData) answers →
+        Fewer d e (suc n) (linkAfter shared Peripheral L (anEvent oobData) answers (L .head .queue) (earlier ++ later)
+        (callsAt shared Peripheral L (anEvent oobData) answers))
+    head-oob earlier later answers o q f =
+        let unhad = not-had earlier later (L .head .due) (L .head .hadOob) (hasListed 0x25 (L .head .calls)) q
+        (h .headSound .oobOnce) in
+        head-event oobData earlier later answers q
+        (subst (λ x. After replier L (L .terminal) e d (h .headInputs) (h .terminalInputs) signsNow (anEvent oobData) answers
+        (L .head .queue) (earlier ++ later) (callsAt shared Peripheral L (anEvent oobData) answers)
+        (suc (h .headInputs)) 0 x) (signed (L .terminal .hadOob) (L .head .hadOob) unhad (h .headFirst))
+        (event-step replier L (L .terminal) e d (h .headInputs) (h .terminalInputs) signsNow oobData earlier later answers 0
+        o q refl f head-in-step))
+        (λ had. refl)
+      where
+        signed : (x y : Bool) → y ≡ false → (x ≡ true → y ≡ true) → plusOne true (signs x y) ≡ signs x true
+        signed true true q first = absurd (true≢false q)
+        signed true false q first = absurd (true≢false (sym (first refl)))
+        signed false true q first = absurd (true≢false q)
+        signed false false q first = refl
+
+    -- each move, by the end that makes it
+    pub kept : (k : MoveKind) (L₁ : Link) → Move shared L k L₁ → Fewer d e (countInput k n) L₁
+    kept k L₁ (takePacket Central p queue answers o q u f) =
+        let known = first-known (L .terminal) p queue (h .terminalSound) q in
+        recounted (suc (h .terminalInputs) + h .headInputs) (suc n) L₁ (omega (arith, h .total))
+        (terminal-moved (aPacket p) answers queue (L .terminal .due) (callsAt shared Central L (aPacket p) answers)
+        (suc (h .terminalInputs))
+        (packet-step opener L (L .head) d e (h .terminalInputs) (h .headInputs) 0 signsNow p queue answers o q u f
+        (known .0) (h .inStep))
+        (known .0) (known .1) (h .terminalSound .oobOnce) (h .headFirst))
+    kept k L₁ (takePacket Peripheral p queue answers o q u f) =
+        let known = first-known (L .head) p queue (h .headSound) q in
+        recounted (h .terminalInputs + suc (h .headInputs)) (suc n) L₁ (omega (arith, h .total))
+        (head-moved (aPacket p) answers queue (L .head .due) (callsAt shared Peripheral L (aPacket p) answers)
+        (suc (h .headInputs))
+        (packet-step replier L (L .terminal) e d (h .headInputs) (h .terminalInputs) signsNow 0 p queue answers o q u f
+        (known .0) head-in-step)
+        (known .0) (known .1) (h .headSound .oobOnce) (h .headFirst))
+    kept k L₁ (takeEvent Central passKey earlier later answers o q u f) =
+        terminal-event passKey earlier later answers q
+        (event-step opener L (L .head) d e (h .terminalInputs) (h .headInputs) 0 passKey earlier later answers signsNow o q
+        refl f (h .inStep))
+        (h .headFirst)
+    kept k L₁ (takeEvent Central oobData earlier later answers o q u f) = terminal-oob earlier later answers o q u f
+    kept k L₁ (takeEvent Central encryptionOn earlier later answers o q u f) =
+        terminal-event encryptionOn earlier later answers q
+        (event-step opener L (L .head) d e (h .terminalInputs) (h .headInputs) 0 encryptionOn earlier later answers signsNow
+        o q refl f (h .inStep))
+        (h .headFirst)
+    kept k L₁ (takeEvent Peripheral passKey earlier later answers o q u f) =
+        head-event passKey earlier later answers q
+        (event-step replier L (L .terminal) e d (h .headInputs) (h .terminalInputs) signsNow passKey earlier later answers 0
+        o q refl f head-in-step)
+        (h .headFirst)
+    kept k L₁ (takeEvent Peripheral oobData earlier later answers o q u f) = head-oob earlier later answers o q f
+    kept k L₁ (takeEvent Peripheral encryptionOn earlier later answers o q u f) =
+        head-event encryptionOn earlier later answers q
+        (event-step replier L (L .terminal) e d (h .headInputs) (h .terminalInputs) signsNow encryptionOn earlier later
+        answers 0 o q refl f head-in-step)
+        (h .headFirst)
+    kept k L₁ (runAgain Central g answers x added o f) =
+        let known = open-given (L .terminal) g answers (h .terminalSound) o in
+        let had : hadOobAfter g (L .terminal .hadOob) ≡ L .terminal .hadOob =
+        subst (λ y. HadBy y (L .terminal .hadOob)) o (h .terminalSound .hadBy) in
+        let new = drop (length (callsAt shared Central L g answers)) (callsAt shared Central L g (answers ++ (x ∷ added))) in
+        let z = again-step opener L (L .head) d e (h .terminalInputs) (h .headInputs) 0 signsNow g answers x added o f known
+        (h .inStep) in
+        recounted (h .terminalInputs + h .headInputs) n L₁ (h .total)
+        (terminal-moved g (answers ++ (x ∷ added)) (L .terminal .queue) (L .terminal .due) new (h .terminalInputs)
+        (subst (λ b. After opener L (L .head) d e (h .terminalInputs) (h .headInputs) 0 g (answers ++ (x ∷ added))
+        (L .terminal .queue) (L .terminal .due) new (h .terminalInputs) (signs b (L .head .hadOob)) 0) (sym had) z)
+        known (h .terminalSound .queued) (rw had (h .terminalSound .oobOnce)) (rw had (h .headFirst)))
+    kept k L₁ (runAgain Peripheral g answers x added o f) =
+        let known = open-given (L .head) g answers (h .headSound) o in
+        let had : hadOobAfter g (L .head .hadOob) ≡ L .head .hadOob =
+        subst (λ y. HadBy y (L .head .hadOob)) o (h .headSound .hadBy) in
+        let new = drop (length (callsAt shared Peripheral L g answers))
+        (callsAt shared Peripheral L g (answers ++ (x ∷ added))) in
+        let z = again-step replier L (L .terminal) e d (h .headInputs) (h .terminalInputs) signsNow 0 g answers x added o f
+        known head-in-step in
+        recounted (h .terminalInputs + h .headInputs) n L₁ (h .total)
+        (head-moved g (answers ++ (x ∷ added)) (L .head .queue) (L .head .due) new (h .headInputs)
+        (subst (λ b. After replier L (L .terminal) e d (h .headInputs) (h .terminalInputs) signsNow g
+        (answers ++ (x ∷ added)) (L .head .queue) (L .head .due) new (h .headInputs) 0 (signs (L .terminal .hadOob) b))
+        (sym had) z)
+        known (h .headSound .queued) (rw had (h .headSound .oobOnce)) (rw had (h .headFirst)))
+
+    -- ---- no step is refused
+
+    pub not-refused-move : (k : MoveKind) (L₁ : Link) (x : Move shared L k L₁) → NotRefused (outcomeOf x)
+    not-refused-move k L₁ (takePacket Central p queue answers o q u f) =
+        not-refused shared s Central L (aPacket p) answers (first-known (L .terminal) p queue (h .terminalSound) q .0) f
+    not-refused-move k L₁ (takePacket Peripheral p queue answers o q u f) =
+        not-refused shared s Peripheral L (aPacket p) answers (first-known (L .head) p queue (h .headSound) q .0) f
+    not-refused-move k L₁ (takeEvent r ε earlier later answers o q u f) =
+        not-refused shared s r L (anEvent ε) answers tt f
+    not-refused-move k L₁ (runAgain Central g answers x added o f) =
+        not-refused shared s Central L g (answers ++ (x ∷ added)) (open-given (L .terminal) g answers (h .terminalSound) o) f
+    not-refused-move k L₁ (runAgain Peripheral g answers x added o f) =
+        not-refused shared s Peripheral L g (answers ++ (x ∷ added)) (open-given (L .head) g answers (h .headSound) o) f

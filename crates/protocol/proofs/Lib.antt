@@ -18,4 +18,5 @@ pub mod Payloads
 pub mod FairReplies
 pub mod Pairing
 pub mod FairSides
+pub mod HeadFollows
 pub mod FairMoves
