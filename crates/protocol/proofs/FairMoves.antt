@@ -14,16 +14,16 @@ use Rattle.machine.specs.declared.Role.{Role}
 use Rattle.machine.specs.declared.Role.the-variants.{Central, Peripheral}
 use Rattle.protocol.specs.declared.Outcome.{Outcome}
 use Rattle.protocol.specs.declared.Outcome.the-variants as outcome
-use Rattle.protocol.specs.Program.{ret, ask, Taken, got, wants, refused}
+use Rattle.protocol.specs.Program.{wanting, play}
 use Rattle.protocol.specs.Ops.{replySort, Reply, replyAt, Program}
-use Rattle.protocol.specs.Step.{playOf}
-use Rattle.protocol.specs.FairLink.{Start, Shared, AreOctets, FairAnswers, QueuedPacket, Due, passKey, oobData, encryptionOn, Given, aPacket, anEvent, OpenStep, End, Link, endOf, ofAll, sentBy, hasListed, madeDueByAll, machineAt, stepAt, callsAt, FairHost, openAfter, hadOobAfter, endAfter, receives, linkAfter, MoveKind, anInput, aReRun, reportDue, MayTake, Move, takePacket, takeEvent, runAgain, outcomeOf, countInput}
+use Rattle.protocol.specs.Step.{handleInput, playOf}
+use Rattle.protocol.specs.FairLink.{Start, Shared, AreOctets, FairAnswers, QueuedPacket, Due, passKey, oobData, encryptionOn, Given, aPacket, anEvent, inputOf, payloadOf, OpenStep, End, Link, endOf, ofAll, sentBy, hasListed, madeDueByAll, machineAt, stepAt, callsAt, FairHost, openAfter, hadOobAfter, endAfter, receives, linkAfter, MoveKind, anInput, aReRun, reportDue, MayTake, Move, takePacket, takeEvent, runAgain, outcomeOf, countInput}
 use Rattle.protocol.specs.FairRuns.{NotRefused}
 use Rattle.protocol.proofs.Programs.{along}
 use Rattle.protocol.proofs.Replies.{reads}
 use Rattle.protocol.proofs.Allowed.{no-answers}
 use Rattle.protocol.proofs.FairReplies.{fair-reply, more-answers}
-use Rattle.protocol.proofs.Exchange.{Party, opener, replier, other, plusOne, locally, counted, FairOf, Hosts, side, InStep, in-step-turned, sideAfter, callsOf, Kept, packet-kept, event-kept, behind-kept, again-kept}
+use Rattle.protocol.proofs.Exchange.{Party, opener, replier, other, plusOne, locally, counted, FairOf, Hosts, Act, Side, side, InStep, in-step-turned, sideAfter, callsOf, Kept, packet-kept, event-kept, behind-kept, again-kept, Can, packet-can, event-can, behind-can, again-can, Over, progress}
 use Rattle.protocol.proofs.Exchange.{receives as received}
 use Rattle.protocol.proofs.Pairing.{roleOf, summary, oobOf, oobBefore, pairing, Agreed}
 use Rattle.protocol.proofs.FairSides.{actOf, sideOf, note-all, send-all, KnownGiven, AllKnown, all-known, act-after, not-refused, one, oobs, oobs-append, oobs-made-by-all, OobOnce}
@@ -490,3 +490,101 @@ module _ (shared : Shared) (s : Start) where
         not-refused shared s Central L g (answers ++ (x ∷ added)) (open-given (L .terminal) g answers (h .terminalSound) o) f
     not-refused-move k L₁ (runAgain Peripheral g answers x added o f) =
         not-refused shared s Peripheral L g (answers ++ (x ∷ added)) (open-given (L .head) g answers (h .headSound) o) f
+
+  -- ---- a move that an end can make is one that the link allows
+
+  abbrev IsIdle : Act (pairing shared) (Agreed shared s) → Type 0
+  IsIdle (Act.idle m) = Unit {0}
+  IsIdle (Act.busy m i answers) = ⊥
+
+  pub idle-none :
+      (m₀ m : Machine) (o : Option OpenStep) → actOf shared s m₀ o ≡ Act.idle m → o ≡ none
+  idle-none m₀ m none e = refl
+  idle-none m₀ m (some o) e = absurd (subst IsIdle (sym e) tt)
+
+  pub idle-machine : (m₀ m : Machine) (o : Option OpenStep) → actOf shared s m₀ o ≡ Act.idle m → m ≡ m₀
+  idle-machine m₀ m none e = cc
+  idle-machine m₀ m (some o) e = absurd (subst IsIdle (sym e) tt)
+
+  -- some move
+  abbrev pub Moving : Link → Type 0
+  Moving L = (k : MoveKind) × (L₁ : Link) × Move shared L k L₁
+
+  module _ (p : Party) (L : Link) where
+    abbrev here : End
+    here = endOf (roleOf p) L
+
+    -- the open step of an act, with a fair host, wants
+    abbrev OpenOf : Act (pairing shared) (Agreed shared s) → Type 0
+    OpenOf (Act.idle m) = ⊥
+    OpenOf (Act.busy m i answers) =
+        let program = handleInput (roleOf p) m (inputOf shared m i) (payloadOf i) in
+        AreOctets answers × FairAnswers shared program answers 0 × (play replyAt answers program 0 .ending ≡ wanting)
+
+    again-moves : (o : Option OpenStep) → here .openStep ≡ o → OpenOf (actOf shared s (here .machine) o) → Moving L
+    again-moves none q h = absurd h
+    again-moves (some o) q h =
+        let z = more-answers shared
+        (handleInput (roleOf p) (here .machine) (inputOf shared (here .machine) (o .given)) (payloadOf (o .given)))
+        (o .answers) (h .0) (h .1) (h .2) in
+        (aReRun, _, runAgain (roleOf p) (o .given) (o .answers) (z .0) (z .1) q (record { octets = z .2; fair = z .3 }))
+
+    event-moves : (m : Machine) (ε : Due) → actOf shared s (here .machine) (here .openStep) ≡ Act.idle m → here .due ≡ ε ∷ [] → MayTake L (roleOf p) ε → Moving L
+    event-moves m ε e q may =
+        (anInput, _, takeEvent (roleOf p) ε [] [] [] (idle-none (here .machine) m (here .openStep) e) q may
+        (no-answers shared (roleOf p) L (anEvent ε)))
+
+  ungated : (p : Party) (L : Link) (ε : Due) → oobOf p ε ≡ false → MayTake L (roleOf p) ε
+  ungated opener L passKey u = tt
+  ungated opener L oobData u = absurd (true≢false u)
+  ungated opener L encryptionOn u = tt
+  ungated replier L ε u = tt
+
+  -- of the signals, the link has what the terminal may use
+  abbrev Signed : Party → Link → ℕ → Type 0
+  Signed opener L n = n ≡ signs (L .terminal .hadOob) (L .head .hadOob)
+  Signed replier L n = n ≡ 0
+
+  gated : (p : Party) (L : Link) (ε : Due) (n n₁ : ℕ) → Signed p L n → n ≡ suc n₁ → oobOf p ε ≡ true → MayTake L (roleOf p) ε
+  gated opener L passKey n n₁ h q u = tt
+  gated opener L oobData n n₁ h q u = go (L .terminal .hadOob) (L .head .hadOob) (sym h ∙ q)
+    where
+      go : (x y : Bool) → signs x y ≡ suc n₁ → y ≡ true
+      go x true q = refl
+      go x false q = absurd (omega (arith, q))
+  gated opener L encryptionOn n n₁ h q u = tt
+  gated replier L ε n n₁ h q u = tt
+
+  can-moves :
+      (p : Party) (L : Link) (k n : ℕ) → Signed p L n →
+      Can (pairing shared) (Agreed shared s) p (sideOf shared s k n (endOf (roleOf p) L)) → Moving L
+  can-moves p L k n h (packet-can m x w e q v) =
+      (anInput, _, takePacket (roleOf p) x w [] (idle-none (here p L .machine) m (here p L .openStep) e) q (rw v refl)
+      (no-answers shared (roleOf p) L (aPacket x)))
+  can-moves p L k n h (event-can m ε e v u) = event-moves p L m ε e v (ungated p L ε u)
+  can-moves p L k n h (behind-can m ε n₁ e v u q) = event-moves p L m ε e v (gated p L ε n n₁ h q u)
+  can-moves p L k n h (again-can m i answers e host w) =
+      again-moves p L (here p L .openStep) refl (subst (OpenOf p L) (sym e) (host .0, host .1, w))
+
+  -- both ends as sides, and that all is over there
+  abbrev pub terminalSide : {d e n : ℕ} {L : Link} → Ok d e n L → Side (pairing shared) (Agreed shared s)
+  terminalSide {L = L} h = sideOf shared s (h .terminalInputs) (signs (L .terminal .hadOob) (L .head .hadOob)) (L .terminal)
+
+  abbrev pub headSide : {d e n : ℕ} {L : Link} → Ok d e n L → Side (pairing shared) (Agreed shared s)
+  headSide {L = L} h = sideOf shared s (h .headInputs) 0 (L .head)
+
+  abbrev pub AllOver : {d e n : ℕ} {L : Link} → Ok d e n L → Type 0
+  AllOver h = Over (pairing shared) (Agreed shared s) (terminalSide h) (headSide h)
+
+  -- some move is allowed, or all is over
+  pub goes-on : (L : Link) (d e n : ℕ) (h : Ok d e n L) → Moving L ⊎ AllOver h
+  goes-on L d e n h =
+      go (progress (pairing shared) (Agreed shared s) d e (terminalSide h) (headSide h) (h .inStep))
+    where
+      go :
+          (Can (pairing shared) (Agreed shared s) opener (terminalSide h)
+          ⊎ Can (pairing shared) (Agreed shared s) replier (headSide h)) ⊎ AllOver h → Moving L ⊎ AllOver h
+      go (inl (inl c)) =
+          inl (can-moves opener L (h .terminalInputs) (signs (L .terminal .hadOob) (L .head .hadOob)) refl c)
+      go (inl (inr c)) = inl (can-moves replier L (h .headInputs) 0 refl c)
+      go (inr o) = inr o

@@ -18,5 +18,7 @@ pub mod Payloads
 pub mod FairReplies
 pub mod Pairing
 pub mod FairSides
+pub mod TerminalFollows
 pub mod HeadFollows
 pub mod FairMoves
+pub mod Demand3

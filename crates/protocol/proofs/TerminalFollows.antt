@@ -1,0 +1,287 @@
+-- The terminal does what the protocol of pairing says, from its request on. Its stages stand last first, as each leads
+-- to one above it. Before a stage n inputs were got; its moves are counted, and d are to spare. Assumes nothing.
+use Prim.Native.Nat.{ℕ, suc, _+_, _*_}
+use mathlib.Core.Path.{_≡_, refl}
+use mathlib.Core.Bool.{Bool, true, false}
+use mathlib.Core.List.{[], _∷_}
+use mathlib.Core.Option.{Option, none, some}
+use native.Mathlib.Omega.{arith}
+use Rattle.octets.specs.declared.Word128.{Word128}
+use Rattle.octets.proofs.Octets.{same-refl}
+use Rattle.crypto.specs.Crypto.{maskedOf}
+use Rattle.crypto.specs.declared.crypto.LongTermKey.{LongTermKey}
+use Rattle.crypto.specs.declared.crypto.Nonce.{Nonce}
+use Rattle.crypto.proofs.Bounds.{c1-back}
+use Rattle.util.specs.declared.util.PairingMethod.{PairingMethod}
+use Rattle.util.specs.declared.util.PairingMethod.the-variants as method
+use Rattle.util.specs.declared.util.PassKeyEntryAction.the-variants as action
+use Rattle.util.proofs.Choice.{never-numeric}
+use Rattle.bond.specs.declared.Address.{Address}
+use Rattle.bond.specs.declared.BondInformation.{BondInformation}
+use Rattle.bond.specs.declared.OptionBond.{OptionBond}
+use Rattle.bond.specs.declared.OptionBond.the-variants as option
+use Rattle.machine.specs.Machine.{wantBonding, noConfirmData, lescSwitch}
+use Rattle.machine.specs.declared.ConfirmPhaseData.{ConfirmPhaseData}
+use Rattle.machine.specs.declared.Machine.{Machine}
+use Rattle.machine.specs.declared.PairingData.{PairingData}
+use Rattle.machine.specs.declared.Phase.the-variants as phase
+use Rattle.protocol.specs.Program.{ret, bind}
+use Rattle.protocol.specs.Ops.{aNonce}
+use Rattle.protocol.specs.Handlers.{Handler, _>>=_, _>>_, give, namesEncryptionKey, namesIdentityKey, enters}
+use Rattle.protocol.specs.Handlers.{confirmData, withNonce, smaller, negotiatedKeySize, withKeys, withIrk}
+use Rattle.protocol.specs.Handlers.{withIdentityAddress, enterBonded, enter, entered, sendEncryptionKey}
+use Rattle.protocol.specs.Handlers.{sendIdentityKey, enableEncryption, «handle_encryption_information»}
+use Rattle.protocol.specs.Handlers.{«handle_identity_information»}
+use Rattle.protocol.specs.LegacyCentral.{confirmValue, «send_all_keys», awaitIdentityOrSend, awaitKeys}
+use Rattle.protocol.specs.LegacyCentral.{awaitKeysOrSucceed, «handle_link_encrypted_success», «send_mconfirm»}
+use Rattle.protocol.specs.LegacyCentral.{«send_mrand», «handle_peer_confirm», «handle_pass_key_input»}
+use Rattle.protocol.specs.LegacyCentral.{beginConfirm, beginMethod, «handle_pairing_response»}
+use Rattle.protocol.specs.LegacyCentral.{«handle_pairing_random», «handle_central_identification»}
+use Rattle.protocol.specs.LegacyCentral.{«handle_identity_address_information», transition, «handle_input»}
+use Rattle.protocol.specs.FairLink.{Start, Shared, encryptionOn, freshTerminal}
+use Rattle.protocol.specs.FairRuns.{countNamed, Encryption}
+use Rattle.protocol.proofs.Exchange.{opener, replier, Local}
+use Rattle.protocol.proofs.Exchange.{quiet, says, takes, urgently, owing, behind, finished}
+use Rattle.protocol.proofs.FairReplies.{FairData}
+use Rattle.protocol.proofs.Payloads.{some-word, word-in, features-in, identification-in, address-in}
+use Rattle.protocol.proofs.Payloads.{smaller-swapped}
+use Rattle.protocol.proofs.Pairing.{pairing, plus, terminalEntries, keysOf, Answer, SentKeys, TerminalFollows}
+use Rattle.protocol.proofs.Pairing.{having, tkOf, chosen, both, size, preq, pres, confirmOf, encryptionOf}
+use Rattle.protocol.proofs.Pairing.{Stored, Due?, over, identityKey, terminalEncryption, terminalKeys, headKeys}
+use Rattle.protocol.proofs.Pairing.{afterSrand, afterMrand, afterMconfirm, confirms, afterResponse, afterRequest}
+
+-- ---- words
+
+-- `send_all_keys`, of the keys that are named
+abbrev sendingIdentity : PairingData → (identity : Bool) → Handler Machine
+sendingIdentity p identity = do
+  sendIdentityKey p identity
+  give (enters phase.Success noConfirmData p)
+
+abbrev sendingKeys : PairingData → (encryption identity : Bool) → Handler Machine
+sendingKeys p encryption identity = do
+  p₁ ← sendEncryptionKey p (λ ltk ediv rand. p) encryption
+  sendingIdentity p₁ identity
+
+module _ (shared : Shared) (s : Start) (a : Answer s) where
+  -- the head's keys that the answer names
+  abbrev encryptionNamed : Bool
+  encryptionNamed = namesEncryptionKey (a .features .«responder_key_distribution»)
+
+  abbrev identityNamed : Bool
+  identityNamed = namesIdentityKey (a .features .«responder_key_distribution»)
+
+  -- the terminal's inputs: those that its user or OOB gives it, and all
+  abbrev ownEntries : ℕ
+  ownEntries = terminalEntries (chosen shared s a)
+
+  abbrev allInputs : ℕ
+  allInputs = 4 + (ownEntries + 2 * keysOf (both shared s a) encryptionNamed identityNamed)
+
+  -- its temporary key, and its data once the answer is there
+  abbrev tk : Word128
+  tk = tkOf shared s (chosen shared s a)
+
+  abbrev confirming : Nonce → ConfirmPhaseData
+  confirming mrand = withNonce (confirmData tk (preq shared s a) (pres shared s a)) mrand
+
+  abbrev answeredBy : Address → OptionBond → PairingData
+  answeredBy peer bond =
+      record {
+        «local_address» = s .terminalAddress;
+        «peer_address» = peer;
+        «local_features» = s .request;
+        «peer_features» = a .features;
+        «pairing_method» = chosen shared s a;
+        «bond_information» = bond;
+      }
+
+  abbrev unbonded : PairingData
+  unbonded = answeredBy (s .headAddress) option.None
+
+  abbrev bonded : BondInformation → PairingData
+  bonded b = answeredBy (s .headAddress) (option.Some b)
+
+  -- a bond has the head's keys, if they were sent
+  abbrev KeepsKeys : Option SentKeys → LongTermKey → (ediv rand : ℕ) → Type 0
+  KeepsKeys none ltk ediv rand = Unit {0}
+  KeepsKeys (some x) ltk ediv rand = (ltk ≡ maskedOf (size shared s a) (x .ltk)) × (ediv ≡ x .ediv) × (rand ≡ x .rand)
+
+  abbrev Keeps : Option SentKeys → BondInformation → Type 0
+  Keeps x b = KeepsKeys x (b .ltk) (b .ediv) (b .rand)
+
+  -- .. and then a machine with this bond has them stored, as the protocol says it
+  kept-stored :
+      (x : Option SentKeys) (m : Machine) (b : BondInformation) →
+      m .«pairing_data» .«bond_information» ≡ option.Some b → Keeps x b → Stored shared s a x m
+  kept-stored none m b e k = tt
+  kept-stored (some x) m b e k = (b, e, k .0, k .1, k .2)
+
+  -- the key size, as the terminal computes it
+  same-size :
+      smaller (a .features .«maximum_encryption_key_size») (s .request .«maximum_encryption_key_size») ≡ size shared s a
+  same-size = smaller-swapped (a .features .«maximum_encryption_key_size») (s .request .«maximum_encryption_key_size»)
+
+  -- ---- the stages with encryption on
+  module _ (typing oob : Bool) (e : Encryption) where
+    abbrev encrypted : ℕ → Local (pairing shared)
+    encrypted n = having shared s typing oob true (e ∷ []) [] [] n
+
+    -- .. and no input to come
+    module _
+        (x : Option SentKeys) (due : Due? shared s a x) (n : ℕ) (all : n ≡ allInputs)
+        (peer : Address) (b : BondInformation) (k : Keeps x b) where
+      abbrev atLast : PairingData
+      atLast = answeredBy peer (option.Some b)
+
+      abbrev success : Machine
+      success = enters phase.Success noConfirmData atLast
+
+      -- all is done
+      stays : (d : ℕ) → TerminalFollows shared s (plus 1 d) (over shared s a e x due) (encrypted n) (ret success)
+      stays d =
+          finished (record { encrypts = refl; inputs = all; ends = refl; stored = kept-stored x success b refl k })
+
+      -- Success is entered
+      succeeds : (d : ℕ) → TerminalFollows shared s (plus 3 d) (over shared s a e x due) (encrypted n) (enter success)
+      unfolding enter
+      succeeds d = go (wantBonding atLast)
+        where
+          go : (bonds : Bool) →
+              TerminalFollows shared s (plus 3 d) (over shared s a e x due) (encrypted n) (enterBonded success b bonds)
+          go true = quiet refl λ u. quiet refl λ v. stays d
+          go false = quiet refl λ u. stays (plus 1 d)
+
+      -- the terminal's identity key is sent, where it is named
+      sends-identity :
+          (d : ℕ) (identity : Bool) →
+          TerminalFollows shared s (plus 7 d) (identityKey shared s a opener identity (over shared s a e x due))
+          (encrypted n) (bind (sendingIdentity atLast identity) entered)
+      unfolding sendIdentityKey
+      sends-identity d true =
+          quiet refl λ irk. says irk refl λ u. quiet refl λ address. says address refl λ v. succeeds d
+      sends-identity d false = succeeds (plus 4 d)
+
+      -- .. and before it the encryption key
+      sends-keys :
+          (d : ℕ) (encryption identity : Bool) →
+          TerminalFollows shared s (plus 12 d)
+          (terminalEncryption shared s a encryption (identityKey shared s a opener identity (over shared s a e x due)))
+          (encrypted n) (bind (sendingKeys atLast encryption identity) entered)
+      unfolding sendEncryptionKey
+      sends-keys d true identity =
+          quiet refl λ ltk. quiet refl λ ediv. quiet refl λ rand. says ltk refl λ u. says (ediv, rand) refl λ v.
+          sends-identity d identity
+      sends-keys d false identity = sends-identity (plus 5 d) identity
+
+      -- the answer, which the terminal reads for this, names them as the request does
+      sends-all-keys :
+          (d : ℕ) →
+          TerminalFollows shared s (plus 12 d) (terminalKeys shared s a e x due) (encrypted n)
+          (bind («send_all_keys» atLast) entered)
+      unfolding «send_all_keys»
+      sends-all-keys d = rw (a .encryption, a .identity) (sends-keys d _ _)
+
+    -- the head's identity key is taken before them, where it is named
+    takes-identity :
+        (d n : ℕ) (x : Option SentKeys) (due : Due? shared s a x) (b : BondInformation) →
+        both shared s a ≡ true → Keeps x b → (identity : Bool) → n + 2 * countNamed identity ≡ allInputs →
+        TerminalFollows shared s (plus 14 d) (identityKey shared s a replier identity (terminalKeys shared s a e x due))
+        (encrypted n) (bind (awaitIdentityOrSend (bonded b) identity) entered)
+    unfolding awaitIdentityOrSend enter «handle_input» transition «handle_identity_information» withIrk
+        «handle_identity_address_information» withIdentityAddress wantBonding
+    takes-identity d n x due b p k true all =
+        takes λ irk. rw (some-word (irk .0)) (takes λ address. rw (address-in address, p)
+        (sends-all-keys x due (suc (suc n)) (omega arith) _ _ k d))
+    takes-identity d n x due b p k false all = sends-all-keys x due n (omega arith) _ b k (plus 2 d)
+
+    -- .. and before it the encryption key
+    takes-keys :
+        (d n : ℕ) (b : BondInformation) → both shared s a ≡ true → n ≡ 4 + ownEntries →
+        (encryption : Bool) (q : encryptionNamed ≡ encryption) →
+        TerminalFollows shared s (plus 16 d) (headKeys shared s a e encryption q) (encrypted n)
+        (bind (awaitKeys (bonded b) encryption) entered)
+    unfolding awaitKeys enter «handle_input» transition «handle_encryption_information»
+        «handle_central_identification» withKeys negotiatedKeySize
+    takes-keys d n b p c true q =
+        takes λ ltk. rw (word-in (ltk .0 .0) (ltk .1)) (takes λ x.
+        rw (identification-in (x .0 .0) (x .1 .0) (x .0 .1) (x .1 .1), same-size)
+        (takes-identity d (suc (suc n)) _ _ _ p (refl, refl, refl) identityNamed (rw (p, q) (omega arith))))
+    takes-keys d n b p c false q =
+        takes-identity (plus 2 d) n none _ b p tt identityNamed (rw (p, q) (omega arith))
+
+    -- keys are exchanged where both bond
+    takes-keys-or-succeeds :
+        (d n : ℕ) (b : BondInformation) → n ≡ 4 + ownEntries → (bonds : Bool) (p : both shared s a ≡ bonds) →
+        TerminalFollows shared s (plus 16 d) (afterSrand shared s a e bonds p) (encrypted n)
+        (bind (awaitKeysOrSucceed (bonded b) bonds) entered)
+    takes-keys-or-succeeds d n b c true p = takes-keys d n b p c encryptionNamed refl
+    takes-keys-or-succeeds d n b c false p = succeeds none _ n (rw p (omega arith)) _ b tt (plus 13 d)
+
+    -- the report that encryption is on
+    takes-report :
+        (d n : ℕ) (b : BondInformation) → n ≡ 3 + ownEntries →
+        TerminalFollows shared s (plus 17 d) (afterSrand shared s a e (both shared s a) refl)
+        (having shared s typing oob true (e ∷ []) [] (encryptionOn ∷ []) n)
+        (ret (enters phase.WaitingLinkEncrypted noConfirmData (bonded b)))
+    unfolding «handle_input» transition «handle_link_encrypted_success» wantBonding
+    takes-report d n b c =
+        urgently refl refl refl (takes-keys-or-succeeds d (suc n) b (omega arith) (both shared s a) refl)
+
+  -- ---- the stages before
+  module _ (typing oob : Bool) where
+    abbrev unencrypted : ℕ → Local (pairing shared)
+    unencrypted n = having shared s typing oob false [] [] [] n
+
+    -- Srand agrees with Sconfirm, and encryption is called for
+    takes-srand :
+        (d n : ℕ) (mrand : Nonce) (srand : FairData aNonce) → n ≡ 2 + ownEntries →
+        TerminalFollows shared s (plus 19 d) (afterMrand shared s a mrand (srand .0)) (unencrypted n)
+        (ret (enters (phase.WaitingPairingRandom (confirmOf shared s a (srand .0))) (confirming mrand) unbonded))
+    unfolding «handle_input» transition «handle_pairing_random» confirmValue enableEncryption negotiatedKeySize enter
+    takes-srand d n mrand srand c =
+        takes λ u. rw (word-in (srand .0 .0) (srand .1), same-refl, same-size) (quiet refl λ b.
+        takes-report typing oob (encryptionOf shared s a mrand (srand .0)) d (suc n) b (omega arith))
+
+    -- Sconfirm is answered by Mrand
+    takes-sconfirm :
+        (d n : ℕ) (mrand : FairData aNonce) → n ≡ 1 + ownEntries →
+        TerminalFollows shared s (plus 21 d) (afterMconfirm shared s a mrand) (unencrypted n)
+        (ret (enters phase.WaitingPairingConfirm (confirming (mrand .0)) unbonded))
+    unfolding «handle_input» transition «handle_peer_confirm» «send_mrand» enter
+    takes-sconfirm d n mrand c =
+        takes λ srand. rw (word-in (confirmOf shared s a (srand .0) .0) (c1-back _ _ _ _ _ _ _ _))
+        (says tt refl λ u. takes-srand d (suc n) (mrand .0) srand (omega arith))
+
+    -- Mconfirm is sent, of a temporary key that is the method's
+    sends-mconfirm :
+        (d n : ℕ) (t : Word128) → t ≡ tk → n ≡ 1 + ownEntries →
+        TerminalFollows shared s (plus 23 d) (confirms shared s a) (unencrypted n)
+        (bind (beginConfirm (preq shared s a) (pres shared s a) unbonded t) entered)
+    unfolding beginConfirm «send_mconfirm» confirmValue enter
+    sends-mconfirm d n t e c = rw e (quiet refl λ mrand. says mrand refl λ u. takes-sconfirm d n mrand c)
+
+  -- the method that was chosen begins: passkey and OOB data are entries
+  begins-method :
+      (d : ℕ) (way : PairingMethod) → chosen shared s a ≡ way →
+      TerminalFollows shared s (plus 25 d) (afterResponse shared s a way) (having shared s false false false [] [] [] 1)
+      (bind (beginMethod (preq shared s a) (pres shared s a) unbonded way) entered)
+  unfolding beginMethod enter «handle_input» transition «handle_pass_key_input» beginConfirm
+  begins-method d method.JustWorks e = sends-mconfirm false false (plus 2 d) 1 _ (rw e) (rw e)
+  begins-method d method.NumericComparison e = absurd (never-numeric (s .request) (a .features) e)
+  begins-method d (method.PassKeyEntry action.Display peripheral) e =
+      quiet refl λ u. quiet refl λ v. sends-mconfirm false false d 1 _ (rw e) (rw e)
+  begins-method d (method.PassKeyEntry action.Input peripheral) e =
+      quiet refl λ u. owing refl refl refl (sends-mconfirm true false d 2 _ (rw e) (rw e))
+  begins-method d method.OutOfBand e =
+      quiet refl λ u. behind refl refl (sends-mconfirm false true d 2 _ (rw e) (rw e))
+
+-- ---- from the request on, with the response first
+pub terminal-follows :
+    (shared : Shared) (s : Start) (d : ℕ) →
+    TerminalFollows shared s (plus 26 d) (afterRequest shared s) (having shared s false false false [] [] [] 0)
+    (ret (freshTerminal s))
+unfolding freshTerminal lescSwitch «handle_input» transition «handle_pairing_response»
+terminal-follows shared s d =
+    takes λ a. rw (features-in (a .features) (a .sizeLeast) (a .sizeLargest))
+    (begins-method shared s a d (chosen shared s a) refl)
