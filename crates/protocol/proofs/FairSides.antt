@@ -41,7 +41,7 @@ has-listed kind (b ∷ before) c =
     swap true false z = refl
     swap false y z = refl
 
-of-all-append : {X : Type 0} (f : Call → List X) (cs ds : List Call) → ofAll f (cs ++ ds) ≡ ofAll f cs ++ ofAll f ds
+pub of-all-append : {X : Type 0} (f : Call → List X) (cs ds : List Call) → ofAll f (cs ++ ds) ≡ ofAll f cs ++ ofAll f ds
 of-all-append f [] ds = refl
 of-all-append f (c ∷ cs) ds = ap (λ x. f c ++ x) (of-all-append f cs ds) ∙ sym (append-assoc (f c) (ofAll f cs) (ofAll f ds))
 

@@ -22,3 +22,4 @@ pub mod TerminalFollows
 pub mod HeadFollows
 pub mod FairMoves
 pub mod Demand3
+pub mod Exhibits
