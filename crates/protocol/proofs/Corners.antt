@@ -1,5 +1,6 @@
--- Document 01's "Corners of the machines", and its answers where the Rust indexes beyond the payload, from the definitions
--- of both roles. (Inputs that leave the state: Awaited and Leaving. Failures that do not matter: Limits.) Assumes nothing.
+-- Document 01's "Corners of the machines", its answers where the Rust indexes beyond the payload, and that a Random is
+-- checked first, from the definitions of both roles. (Inputs that leave the state: Awaited and Leaving. Failures that do
+-- not matter: Limits.) Assumes nothing.
 use Prim.Native.Nat.{ℕ, _<_, _≤_}
 use mathlib.Core.Path.{_≡_, refl}
 use mathlib.Core.Bool.{false}
@@ -7,9 +8,11 @@ use mathlib.Core.List.{List, []}
 use mathlib.Core.Option.{some}
 use lib.Dec.{eqb}
 use lib.ListN.{length, getD, take, drop}
-use borrow.Author.Tests.{ne-eqb, lt-ltb, le-ltb}
-use Rattle.octets.specs.Octets.{fromOctets}
+use borrow.Author.Tests.{eq-eqb, ne-eqb, lt-ltb, le-ltb}
+use Rattle.octets.specs.Octets.{fromOctets, wordOf, sameWord}
+use Rattle.crypto.specs.declared.crypto.Confirm.{Confirm}
 use Rattle.crypto.specs.declared.crypto.LongTermKey.{LongTermKey}
+use Rattle.crypto.specs.declared.crypto.Nonce.{Nonce}
 use Rattle.types.specs.Types.{commandCode}
 use Rattle.types.specs.declared.types.Command.{Command}
 use Rattle.types.specs.declared.types.Command.the-variants as command
@@ -57,6 +60,21 @@ module _ (c : ConfirmPhaseData) (d : PairingData) (payload : List ℕ) where
   unfolding central.transition peripheral.transition central.«handle_peer_confirm» peripheral.«handle_peer_confirm» wordIn
   confirm-awaited Central h = rw (ne-eqb (length payload) 16 h)
   confirm-awaited Peripheral h = rw (ne-eqb (length payload) 16 h)
+
+  -- ---- a Random is checked before anything else: where its c1 is not the Confirm that came, nothing is sent
+
+  abbrev confirmValueOf : Role → Nonce → Confirm
+  confirmValueOf Central r = central.confirmValue c d r
+  confirmValueOf Peripheral r = peripheral.confirmValue c d r
+
+  pub random-not-agreeing :
+      (r : Role) (confirm : Confirm) → length payload ≡ 16 →
+      sameWord (confirmValueOf r (record { 0 = wordOf payload }) .0) (confirm .0) ≡ false →
+      transitionOf r (standing (phase.WaitingPairingRandom confirm) c d) (received command.PairingRandom) payload
+      ≡ fail d (Security reason.ConfirmValueFailed)
+  unfolding central.transition peripheral.transition central.«handle_pairing_random» peripheral.«handle_pairing_random» wordIn
+  random-not-agreeing Central confirm h e = rw (eq-eqb (length payload) 16 h, e)
+  random-not-agreeing Peripheral confirm h e = rw (eq-eqb (length payload) 16 h, e)
 
   -- ---- CentralIdentification under 10 octets is InvalidParameters
 

@@ -28,7 +28,7 @@ use Rattle.protocol.specs.Step.{playOf, step}
 use Rattle.protocol.specs.FairLink.{Start, AreOctets, NamesNoMore, FairStart, Shared, Link, freshHead, requestOf, freshLink, stepAt, callsAt, MoveKind, anInput, Move, takePacket, takeEvent, runAgain, Moves, noMove, move, Run}
 use Rattle.protocol.specs.FairRuns.{entries, keys, responseIn, responsesIn, WaitsForIdentityKey}
 use Rattle.protocol.proofs.FairSides.{of-all-append}
-use Rattle.protocol.proofs.Demand3.{every-fair-run-ends}
+use Rattle.protocol.proofs.FairRunsEnd.{every-fair-run-ends}
 
 abbrev allOctets : List ℕ → Bool
 allOctets [] = true

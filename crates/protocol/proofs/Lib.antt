@@ -21,5 +21,5 @@ pub mod FairSides
 pub mod TerminalFollows
 pub mod HeadFollows
 pub mod FairMoves
-pub mod Demand3
+pub mod FairRunsEnd
 pub mod Exhibits

@@ -1,7 +1,7 @@
 -- The terminal does what the protocol of pairing says, from its request on. Its stages stand last first, as each leads
 -- to one above it. Before a stage n inputs were got; its moves are counted, and d are to spare. Assumes nothing.
 use Prim.Native.Nat.{ℕ, suc, _+_, _*_}
-use mathlib.Core.Path.{_≡_, refl}
+use mathlib.Core.Path.{_≡_, refl, sym, subst₂}
 use mathlib.Core.Bool.{Bool, true, false}
 use mathlib.Core.List.{[], _∷_}
 use mathlib.Core.Option.{Option, none, some}
@@ -180,7 +180,11 @@ module _ (shared : Shared) (s : Start) (a : Answer s) where
           TerminalFollows shared s (plus 12 d) (terminalKeys shared s a e x due) (encrypted n)
           (bind («send_all_keys» atLast) entered)
       unfolding «send_all_keys»
-      sends-all-keys d = rw (a .encryption, a .identity) (sends-keys d _ _)
+      sends-all-keys d =
+          subst₂
+          (λ encryption identity. TerminalFollows shared s (plus 12 d) (terminalKeys shared s a e x due) (encrypted n)
+          (bind (sendingKeys atLast encryption identity) entered))
+          (sym (a .encryption)) (sym (a .identity)) (sends-keys d _ _)
 
     -- the head's identity key is taken before them, where it is named
     takes-identity :
