@@ -417,6 +417,7 @@ module _ (S : System) where
         behind-it s D pk K [] o a k = k
         behind-it s D pk K (some p₁ ∷ q) o a k = apart-back (other r) s o (a .0)
         behind-it s D pk K (none ∷ q) o a k = never a
+
         go : (g : Protocol) → Along (other r) (none ∷ to) g Y → ⊥
         go (message s D pk K) a = never a
         go (signal s D pk K) a = behind-it s D pk K to (a .0) (a .1) k
@@ -472,10 +473,13 @@ module _ (S : System) where
       where
         from₁ : List Item
         from₁ = from ++ optional (sentItem (sent c))
+
         held₁ : Held from₁ (w ++ optional (sent c)) n
         held₁ = held-sent (sent c) from w n held
+
         asked : Sync r to from₁ (λ g. (x : Fair c) → Fits d r g (note c l) (k (fairly c x))) Y
         asked = emit r (sentItem (sent c)) to from (λ g. (x : Fair c) → Fits d r g (note c l) (k (fairly c x))) Y h
+
         go :
             ((x : Reply c) (j : ℕ) (l : Local) (to from : List Item) (w : List Packet) (n : ℕ) (Y : Protocol → Type 1) →
             FairOf s (k x) j → Held from w n → Sync r to from (λ g. Fits d r g l (k x)) Y →
@@ -571,9 +575,17 @@ module _ (S : System) where
         (d₁ : ℕ) × (d₁ < d)
         × InStep r d₁ e (side (actAfter m i s (play read s (step r m i) 0 .ending)) (noteAll cs l) w n) (receives cs b y)
     closes H r d e m i s cs l w n y b to host held z =
-        let stop = stops s (step r m i) 0 (H .fair (step r m i) s host) in
-        (z .0, z .1, (to, z .2, held, z .3,
-        onward r to (z .2) (λ g h. holds-after (z .0) r g (noteAll cs l) m i s host stop h) (z .4)))
+        let stop = stops s (step r m i) 0 (H .fair (step r m i) s host) in (
+          z .0,
+          z .1,
+          (
+            to,
+            z .2,
+            held,
+            z .3,
+            onward r to (z .2) (λ g h. holds-after (z .0) r g (noteAll cs l) m i s host stop h) (z .4),
+          ),
+        )
 
     -- ---- each kind of move keeps the ends in step, and leaves the end that moved less to do
 
@@ -727,6 +739,7 @@ module _ (S : System) where
       where
         Next : Protocol → Type 1
         Next g = X g (counted l []) (step r m (event ε))
+
         go : (g : Protocol) → Behind r g Next → Along (other r) (some p₁ ∷ to) g Y → ⊥
         go (message s D pk K) b a = never b
         go (signal s D pk K) b a = never a

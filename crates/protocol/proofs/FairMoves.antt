@@ -138,9 +138,12 @@ module _ (shared : Shared) (s : Start) where
         (locally (pairing shared) (summary (this .calls)) due inputs) queue n)
         (received (pairing shared) (Agreed shared s) new b (sideOf shared s k₂ n₂ that)) →
         After g answers queue due new inputs n (plusOne b n₂)
-    after g answers queue due new inputs n b known z =
-        (z .0, z .1, subst₂ (λ x y. InStep (pairing shared) (Agreed shared s) p (z .0) e x y)
-        (after-side g answers queue due new inputs n known) (receives-side new that b k₂ n₂) (z .2))
+    after g answers queue due new inputs n b known z = (
+      z .0,
+      z .1,
+      subst₂ (λ x y. InStep (pairing shared) (Agreed shared s) p (z .0) e x y)
+          (after-side g answers queue due new inputs n known) (receives-side new that b k₂ n₂) (z .2),
+    )
 
     -- an end in no step, with these packets, in step with the other
     abbrev Before : (n : ℕ) → List QueuedPacket → Type 1
@@ -285,16 +288,20 @@ module _ (shared : Shared) (s : Start) where
           oobs due + one (hadOobAfter g (L .terminal .hadOob)) ≡ one (hasListed 0x25 (L .terminal .calls)) →
           (hadOobAfter g (L .terminal .hadOob) ≡ true → L .head .hadOob ≡ true) →
           Fewer d e (k + h .headInputs) (linkAfter shared Central L g answers queue due new)
-      terminal-moved k z known queued o first =
-          (z .0, e, omega (arith, z .1), record {
-            terminalInputs = k;
-            headInputs = h .headInputs;
-            total = refl;
-            inStep = z .2;
-            terminalSound = after-sound Central L g answers queue due new known queued o;
-            headSound = receives-sound new (L .head) (h .headSound);
-            headFirst = first;
-          })
+      terminal-moved k z known queued o first = (
+        z .0,
+        e,
+        omega (arith, z .1),
+        record {
+          terminalInputs = k;
+          headInputs = h .headInputs;
+          total = refl;
+          inStep = z .2;
+          terminalSound = after-sound Central L g answers queue due new known queued o;
+          headSound = receives-sound new (L .head) (h .headSound);
+          headFirst = first;
+        },
+      )
 
       -- a move of the head
       head-moved :
@@ -306,19 +313,23 @@ module _ (shared : Shared) (s : Start) where
           (L .terminal .hadOob ≡ true → hadOobAfter g (L .head .hadOob) ≡ true) →
           Fewer d e (h .terminalInputs + k) (linkAfter shared Peripheral L g answers queue due new)
       head-moved k z known queued o first =
-          let n₁ = signs (L .terminal .hadOob) (hadOobAfter g (L .head .hadOob)) in
-          (d, z .0, omega (arith, z .1), record {
-            terminalInputs = h .terminalInputs;
-            headInputs = k;
-            total = refl;
-            inStep =
-                in-step-turned (pairing shared) (Agreed shared s) replier (z .0) d
-                (sideOf shared s k 0 (endAfter shared Peripheral L g answers queue due new))
-                (sideOf shared s (h .terminalInputs) n₁ (receives new (L .terminal))) (z .2);
-            terminalSound = receives-sound new (L .terminal) (h .terminalSound);
-            headSound = after-sound Peripheral L g answers queue due new known queued o;
-            headFirst = first;
-          })
+          let n₁ = signs (L .terminal .hadOob) (hadOobAfter g (L .head .hadOob)) in (
+            d,
+            z .0,
+            omega (arith, z .1),
+            record {
+              terminalInputs = h .terminalInputs;
+              headInputs = k;
+              total = refl;
+              inStep =
+                  in-step-turned (pairing shared) (Agreed shared s) replier (z .0) d
+                  (sideOf shared s k 0 (endAfter shared Peripheral L g answers queue due new))
+                  (sideOf shared s (h .terminalInputs) n₁ (receives new (L .terminal))) (z .2);
+              terminalSound = receives-sound new (L .terminal) (h .terminalSound);
+              headSound = after-sound Peripheral L g answers queue due new known queued o;
+              headFirst = first;
+            },
+          )
 
     open-given :
         (x : End) (g : Given) (answers : List ℕ) → Sound x → x .openStep ≡ some (record { given = g; answers = answers }) →
@@ -530,9 +541,12 @@ module _ (shared : Shared) (s : Start) where
         (aReRun, _, runAgain (roleOf p) (o .given) (o .answers) (z .0) (z .1) q (record { octets = z .2; fair = z .3 }))
 
     event-moves : (m : Machine) (ε : Due) → actOf shared s (here .machine) (here .openStep) ≡ Act.idle m → here .due ≡ ε ∷ [] → MayTake L (roleOf p) ε → Moving L
-    event-moves m ε e q may =
-        (anInput, _, takeEvent (roleOf p) ε [] [] [] (idle-none (here .machine) m (here .openStep) e) q may
-        (no-answers shared (roleOf p) L (anEvent ε)))
+    event-moves m ε e q may = (
+      anInput,
+      _,
+      takeEvent (roleOf p) ε [] [] [] (idle-none (here .machine) m (here .openStep) e) q may
+          (no-answers shared (roleOf p) L (anEvent ε)),
+    )
 
   ungated : (p : Party) (L : Link) (ε : Due) → oobOf p ε ≡ false → MayTake L (roleOf p) ε
   ungated opener L passKey u = tt
@@ -558,9 +572,12 @@ module _ (shared : Shared) (s : Start) where
   can-moves :
       (p : Party) (L : Link) (k n : ℕ) → Signed p L n →
       Can (pairing shared) (Agreed shared s) p (sideOf shared s k n (endOf (roleOf p) L)) → Moving L
-  can-moves p L k n h (packet-can m x w e q v) =
-      (anInput, _, takePacket (roleOf p) x w [] (idle-none (here p L .machine) m (here p L .openStep) e) q (rw v refl)
-      (no-answers shared (roleOf p) L (aPacket x)))
+  can-moves p L k n h (packet-can m x w e q v) = (
+    anInput,
+    _,
+    takePacket (roleOf p) x w [] (idle-none (here p L .machine) m (here p L .openStep) e) q (rw v refl)
+        (no-answers shared (roleOf p) L (aPacket x)),
+  )
   can-moves p L k n h (event-can m ε e v u) = event-moves p L m ε e v (ungated p L ε u)
   can-moves p L k n h (behind-can m ε n₁ e v u q) = event-moves p L m ε e v (gated p L ε n n₁ h q u)
   can-moves p L k n h (again-can m i answers e host w) =

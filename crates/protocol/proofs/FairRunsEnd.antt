@@ -44,12 +44,16 @@ few-keys request answer = go (bothBond request answer)
     few : (b : Bool) → countNamed b ≤ 1
     few true = omega arith
     few false = omega arith
+
     go : (b : Bool) → cond b (keysNamed answer) 0 ≤ 4
     go true =
-        omega (arith, few (namesEncryptionKey (answer .«initiator_key_distribution»)),
-        few (namesIdentityKey (answer .«initiator_key_distribution»)),
-        few (namesEncryptionKey (answer .«responder_key_distribution»)),
-        few (namesIdentityKey (answer .«responder_key_distribution»)))
+        omega (
+          arith,
+          few (namesEncryptionKey (answer .«initiator_key_distribution»)),
+          few (namesIdentityKey (answer .«initiator_key_distribution»)),
+          few (namesEncryptionKey (answer .«responder_key_distribution»)),
+          few (namesIdentityKey (answer .«responder_key_distribution»)),
+        )
     go false = omega arith
 
 -- ---- where nothing is queued, due or open, no move is allowed
@@ -126,8 +130,13 @@ module _ (shared : Shared) (s : Start) where
 
     few-inputs : n ≤ 18
     few-inputs =
-        omega (arith, h .total, agreed .counted, few-entries (legacyMethod (s .request) (agreed .answer)),
-        few-keys (s .request) (agreed .answer))
+        omega (
+          arith,
+          h .total,
+          agreed .counted,
+          few-entries (legacyMethod (s .request) (agreed .answer)),
+          few-keys (s .request) (agreed .answer),
+        )
 
     over-still : (k : MoveKind) (L₁ : Link) → Move shared L k L₁ → ⊥
     over-still = still shared L idle
@@ -144,15 +153,25 @@ module _ (shared : Shared) (s : Start) where
 
   here-finished : (L : Link) (d e n : ℕ) (h : Ok shared s d e n L) → AllOver shared s h → Finishes n L
   here-finished L d e n h o =
-      let same : n ≡ n + 0 = omega arith in
-      (0, 0, L, record { all = noMove; over = over-still L d e n h o },
-      subst (λ k. RunEnds (s .request) k L) same (run-ends L d e n h o), omega (arith, few-inputs L d e n h o))
+      let same : n ≡ n + 0 = omega arith in (
+        0,
+        0,
+        L,
+        record { all = noMove; over = over-still L d e n h o },
+        subst (λ k. RunEnds (s .request) k L) same (run-ends L d e n h o),
+        omega (arith, few-inputs L d e n h o),
+      )
 
   then-finishes : (n : ℕ) (L : Link) (m : Moving shared s L) → Finishes (countInput (m .0) n) (m .1) → Finishes n L
   then-finishes n L m y =
-      let same = count-more (m .0) n (y .1) in
-      (suc (y .0), countInput (m .0) (y .1), y .2, record { all = move (m .2) (y .3 .all); over = y .3 .over },
-      subst (λ k. RunEnds (s .request) k (y .2)) same (y .4), subst (λ k. k ≤ 18) same (y .5))
+      let same = count-more (m .0) n (y .1) in (
+        suc (y .0),
+        countInput (m .0) (y .1),
+        y .2,
+        record { all = move (m .2) (y .3 .all); over = y .3 .over },
+        subst (λ k. RunEnds (s .request) k (y .2)) same (y .4),
+        subst (λ k. k ≤ 18) same (y .5),
+      )
 
   finishes : (b : ℕ) (L : Link) (d e n : ℕ) → d + e ≤ b → Ok shared s d e n L → Finishes n L
   finishes zero L d e n l h = go (goes-on shared s L d e n h)
@@ -206,11 +225,14 @@ module _ (shared : Shared) (s : Start) where
 
 -- the claim
 pub every-fair-run-ends : EveryFairRunEnds
-every-fair-run-ends s fair = (25 + 31, λ shared. record {
-  bounded = λ moves inputs L x. omega (arith, in-step shared s fair moves inputs L x .2);
-  begins = λ moves inputs L x. let z = then-ends shared s fair moves inputs L x in (z .0, z .1, z .2, z .3);
-  accepted = λ moves inputs L x. let z = in-step shared s fair moves inputs L x in
-  not-refused-move shared s L (z .0) (z .1) (0 + inputs) (z .3);
-  fewInputs = λ moves inputs L x. let z = then-ends shared s fair moves inputs L x in omega (arith, z .5);
-  comesTo = λ moves inputs L x. comes-to shared s fair moves inputs L x;
-})
+every-fair-run-ends s fair = (
+  25 + 31,
+  λ shared. record {
+    bounded = λ moves inputs L x. omega (arith, in-step shared s fair moves inputs L x .2);
+    begins = λ moves inputs L x. let z = then-ends shared s fair moves inputs L x in (z .0, z .1, z .2, z .3);
+    accepted = λ moves inputs L x. let z = in-step shared s fair moves inputs L x in
+        not-refused-move shared s L (z .0) (z .1) (0 + inputs) (z .3);
+    fewInputs = λ moves inputs L x. let z = then-ends shared s fair moves inputs L x in omega (arith, z .5);
+    comesTo = λ moves inputs L x. comes-to shared s fair moves inputs L x;
+  },
+)

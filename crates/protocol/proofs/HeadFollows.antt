@@ -270,6 +270,14 @@ module _ (shared : Shared) (s : Start) (a : Answer s) where
   abbrev keyed : Word128 → ConfirmPhaseData
   keyed tk = confirmData tk (preq shared s a) (pres shared s a)
 
+  -- c1 as the head computes it is c1 as the protocol has it
+  confirm-value :
+      (srand r : Nonce) →
+      confirmValue (withNonce (keyed (tkOf shared s (chosen shared s a))) srand) (headData option.None) r
+      ≡ confirmOf shared s a r
+  unfolding confirmValue
+  confirm-value srand r = refl
+
   -- Mrand agrees with Mconfirm: Srand goes out, and encryption is called for
   takes-random :
       (d n : ℕ) (typing oob : Bool) (mrand : FairData aNonce) (srand : Nonce) →
@@ -277,9 +285,9 @@ module _ (shared : Shared) (s : Start) (a : Answer s) where
       HeadFollows shared s (plus 20 d) (afterSconfirm shared s a (mrand .0) srand) (confirming typing oob [] n)
       (ret (enters (phase.WaitingPairingRandom (confirmOf shared s a (mrand .0)))
       (withNonce (keyed (tkOf shared s (chosen shared s a))) srand) (headData option.None)))
-  unfolding «handle_input» transition «handle_pairing_random» confirmValue enableEncryption negotiatedKeySize enter
+  unfolding «handle_input» transition «handle_pairing_random» enableEncryption negotiatedKeySize enter
   takes-random d n typing oob mrand srand all =
-      takes λ u. rw (word-in (mrand .0 .0) (mrand .1), same-refl)
+      takes λ u. rw (word-in (mrand .0 .0) (mrand .1), confirm-value srand (mrand .0), same-refl)
       (says tt refl λ v. quiet refl λ b. takes-report _ typing oob d (suc n) b (omega arith))
 
   -- Sconfirm goes out, where the temporary key is the method's

@@ -1,7 +1,7 @@
 -- The terminal does what the protocol of pairing says, from its request on. Its stages stand last first, as each leads
 -- to one above it. Before a stage n inputs were got; its moves are counted, and d are to spare. Assumes nothing.
 use Prim.Native.Nat.{ℕ, suc, _+_, _*_}
-use mathlib.Core.Path.{_≡_, refl, sym, subst₂}
+use mathlib.Core.Path.{_≡_, refl}
 use mathlib.Core.Bool.{Bool, true, false}
 use mathlib.Core.List.{[], _∷_}
 use mathlib.Core.Option.{Option, none, some}
@@ -62,6 +62,15 @@ abbrev sendingKeys : PairingData → (encryption identity : Bool) → Handler Ma
 sendingKeys p encryption identity = do
   p₁ ← sendEncryptionKey p (λ ltk ediv rand. p) encryption
   sendingIdentity p₁ identity
+
+-- .. which are those that the peer's record names for the initiator
+sends-named :
+    (p : PairingData) →
+    «send_all_keys» p
+    ≡ sendingKeys p (namesEncryptionKey (p .«peer_features» .«initiator_key_distribution»))
+    (namesIdentityKey (p .«peer_features» .«initiator_key_distribution»))
+unfolding «send_all_keys»
+sends-named p = refl
 
 module _ (shared : Shared) (s : Start) (a : Answer s) where
   -- the head's keys that the answer names
@@ -179,12 +188,7 @@ module _ (shared : Shared) (s : Start) (a : Answer s) where
           (d : ℕ) →
           TerminalFollows shared s (plus 12 d) (terminalKeys shared s a e x due) (encrypted n)
           (bind («send_all_keys» atLast) entered)
-      unfolding «send_all_keys»
-      sends-all-keys d =
-          subst₂
-          (λ encryption identity. TerminalFollows shared s (plus 12 d) (terminalKeys shared s a e x due) (encrypted n)
-          (bind (sendingKeys atLast encryption identity) entered))
-          (sym (a .encryption)) (sym (a .identity)) (sends-keys d _ _)
+      sends-all-keys d = rw (sends-named atLast, a .encryption, a .identity) (sends-keys d _ _)
 
     -- the head's identity key is taken before them, where it is named
     takes-identity :
@@ -237,14 +241,19 @@ module _ (shared : Shared) (s : Start) (a : Answer s) where
     abbrev unencrypted : ℕ → Local (pairing shared)
     unencrypted n = having shared s typing oob false [] [] [] n
 
+    -- c1 as the terminal computes it is c1 as the protocol has it
+    confirm-value : (mrand r : Nonce) → confirmValue (confirming mrand) unbonded r ≡ confirmOf shared s a r
+    unfolding confirmValue
+    confirm-value mrand r = refl
+
     -- Srand agrees with Sconfirm, and encryption is called for
     takes-srand :
         (d n : ℕ) (mrand : Nonce) (srand : FairData aNonce) → n ≡ 2 + ownEntries →
         TerminalFollows shared s (plus 19 d) (afterMrand shared s a mrand (srand .0)) (unencrypted n)
         (ret (enters (phase.WaitingPairingRandom (confirmOf shared s a (srand .0))) (confirming mrand) unbonded))
-    unfolding «handle_input» transition «handle_pairing_random» confirmValue enableEncryption negotiatedKeySize enter
+    unfolding «handle_input» transition «handle_pairing_random» enableEncryption negotiatedKeySize enter
     takes-srand d n mrand srand c =
-        takes λ u. rw (word-in (srand .0 .0) (srand .1), same-refl, same-size) (quiet refl λ b.
+        takes λ u. rw (word-in (srand .0 .0) (srand .1), confirm-value mrand (srand .0), same-refl, same-size) (quiet refl λ b.
         takes-report typing oob (encryptionOf shared s a mrand (srand .0)) d (suc n) b (omega arith))
 
     -- Sconfirm is answered by Mrand
