@@ -72,7 +72,8 @@ module _ (c : ConfirmPhaseData) (d : PairingData) (payload : List ℕ) where
       sameWord (confirmValueOf r (record { 0 = wordOf payload }) .0) (confirm .0) ≡ false →
       transitionOf r (standing (phase.WaitingPairingRandom confirm) c d) (received command.PairingRandom) payload
       ≡ fail d (Security reason.ConfirmValueFailed)
-  unfolding central.transition peripheral.transition central.«handle_pairing_random» peripheral.«handle_pairing_random» wordIn
+  unfolding central.transition peripheral.transition central.«handle_pairing_random»
+      peripheral.«handle_pairing_random» wordIn
   random-not-agreeing Central confirm h e = rw (eq-eqb (length payload) 16 h, e) refl
   random-not-agreeing Peripheral confirm h e = rw (eq-eqb (length payload) 16 h, e) refl
 

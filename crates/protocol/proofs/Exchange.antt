@@ -1,7 +1,7 @@
 -- Two ends that exchange packets over a link, each by programs of host calls. If both follow one protocol, the moves of the
 -- link are bounded, and where none is left both ends stand where the protocol finishes. Nothing here knows who the ends
 -- are or what they say. Assumes nothing.
-use Prim.Native.Nat.{ℕ, zero, suc, _≤_, _<_}
+use Prim.Native.Nat.{ℕ, zero, suc, _<_}
 use mathlib.Core.Path.{_≡_, refl, sym, ap, _∙_, subst, subst₂}
 use mathlib.Core.Bool.{Bool, true, false}
 use mathlib.Core.List.{List, [], _∷_, _++_, tail}
@@ -133,7 +133,8 @@ module _ (S : System) where
       signal : Party → (D : Type 0) → (D → Packet) → (D → Protocol) → Protocol
       finish :
           (F : Party → Machine → Local → Type 0) →
-          ((m : Machine) (l : Local) (m₁ : Machine) (l₁ : Local) → F opener m l → F replier m₁ l₁ → Goal m l m₁ l₁) → Protocol
+          ((m : Machine) (l : Local) (m₁ : Machine) (l₁ : Local) → F opener m l → F replier m₁ l₁ → Goal m l m₁ l₁) →
+          Protocol
 
     -- what is on its way to an end: a packet, or none, which is a signal
     abbrev pub Item : Type 0
@@ -282,7 +283,8 @@ module _ (S : System) where
     emits-map r (some none) (signal s D pk K) f h = (h .0, f (message (other s) D pk K) (h .1))
     emits-map r (some none) (finish F j) f h = h
 
-    emits-end : (r : Party) (o : Option Item) (g : Protocol) (X : Protocol → Type 1) → Emits r o g X → (g₁ : Protocol) × X g₁
+    emits-end : (r : Party) (o : Option Item) (g : Protocol) (X : Protocol → Type 1) → Emits r o g X → (g₁ : Protocol)
+        × X g₁
     emits-end r none g X h = (g, h)
     emits-end r (some (some p)) (message s D pk K) X h = (K (h .1), h .3)
     emits-end r (some (some p)) (signal s D pk K) X h = never h
@@ -297,7 +299,8 @@ module _ (S : System) where
     along-map r [] g f h = f g h
     along-map r (i ∷ q) g f h = emits-map r (some i) g (λ g₁. along-map r q g₁ f) h
 
-    along-end : (r : Party) (q : List Item) (g : Protocol) (X : Protocol → Type 1) → Along r q g X → (g₁ : Protocol) × X g₁
+    along-end : (r : Party) (q : List Item) (g : Protocol) (X : Protocol → Type 1) → Along r q g X → (g₁ : Protocol)
+        × X g₁
     along-end r [] g X h = (g, h)
     along-end r (i ∷ q) g X h =
         let z = emits-end r (some i) g (λ g₁. Along r q g₁ X) h in
@@ -456,7 +459,8 @@ module _ (S : System) where
     Stands d r g l (ask c k) = (x : Fair c) → Fits d r g l (k (fairly c x))
 
     -- what a program comes to: less is left to do, and what it sent is on its way
-    abbrev Comes : ℕ → Party → Program → List Call → Local → (to : List Item) → List Packet → ℕ → (Protocol → Type 1) → Type 1
+    abbrev Comes : ℕ → Party → Program → List Call → Local → (to : List Item) → List Packet → ℕ → (Protocol → Type 1) →
+        Type 1
     Comes d r p cs l to w n Y =
         (d₁ : ℕ) × (d₁ < d) × (from : List Item) × Held from (sendAll cs w) n
         × Sync r to from (λ g. Stands d₁ r g (noteAll cs l) p) Y
@@ -559,7 +563,8 @@ module _ (S : System) where
         ((m₁ : Machine) × (play read s (step r m i) 0 .ending ≡ ended m₁) × (rest read s (step r m i) 0 ≡ ret m₁))
         ⊎ ((c : Call) × (k : Reply c → Program) × (play read s (step r m i) 0 .ending ≡ wanting)
         × (rest read s (step r m i) 0 ≡ ask c k)) →
-        Stands d r g l (rest read s (step r m i) 0) → Holds d r g l (actAfter m i s (play read s (step r m i) 0 .ending))
+        Stands d r g l (rest read s (step r m i) 0) →
+        Holds d r g l (actAfter m i s (play read s (step r m i) 0 .ending))
     holds-after d r g l m i s host (inl z) h =
         subst (λ e. Holds d r g l (actAfter m i s e)) (sym (z .1)) (subst (λ p. Stands d r g l p) (z .2) h)
     holds-after d r g l m i s host (inr z) h =
@@ -573,7 +578,8 @@ module _ (S : System) where
         Comes d r (rest read s (step r m i) 0) cs l to (y .queue) (plusOne b (y .signs))
         (λ g. Holds e (other r) g (y .state) (y .act)) →
         (d₁ : ℕ) × (d₁ < d)
-        × InStep r d₁ e (side (actAfter m i s (play read s (step r m i) 0 .ending)) (noteAll cs l) w n) (receives cs b y)
+        × InStep r d₁ e (side (actAfter m i s (play read s (step r m i) 0 .ending)) (noteAll cs l) w n)
+        (receives cs b y)
     closes H r d e m i s cs l w n y b to host held z =
         let stop = stops s (step r m i) 0 (H .fair (step r m i) s host) in (
           z .0,
@@ -601,7 +607,8 @@ module _ (S : System) where
     Kept r d e x y = (d₁ : ℕ) × (d₁ < d) × InStep r d₁ e x y
 
     idle-packets :
-        (X : Protocol → Local → Program → Type 1) (r : Party) (g : Protocol) (l : Local) (m : Machine) (v : List Event) →
+        (X : Protocol → Local → Program → Type 1) (r : Party) (g : Protocol) (l : Local) (m : Machine)
+        (v : List Event) →
         urgent v ≡ false → Idle X r g l m v → Packets X r g l m
     idle-packets X r (message s D pk K) l m [] u h = h .1
     idle-packets X r (signal s D pk K) l m [] u h = never h
@@ -618,92 +625,95 @@ module _ (S : System) where
     idle-event X r g l m v e (e₁ ∷ []) later q h = never (subst (λ v. Idle X r g l m v) q h)
     idle-event X r g l m v e (e₁ ∷ (e₂ ∷ earlier)) later q h = never (subst (λ v. Idle X r g l m v) q h)
 
-    module _ (H : Hosts) (r : Party) (d e : ℕ) (m : Machine) (l : Local) (w : List Packet) (s : List Octet) (y : Side) where
-      -- how the other end stands
-      abbrev There : Protocol → Type 1
-      There g = Holds e (other r) g (y .state) (y .act)
+    module _ (H : Hosts) (r : Party) (d e : ℕ) (m : Machine) (l : Local) (w : List Packet) (s : List Octet) (y : Side)
+      where
+        -- how the other end stands
+        abbrev There : Protocol → Type 1
+        There g = Holds e (other r) g (y .state) (y .act)
 
-      -- the oldest packet
-      pub packet-kept :
-          (n : ℕ) (p : Packet) → urgent (l .due) ≡ false → Host (step r m (packet p)) s →
-          InStep r d e (side (idle m) l (p ∷ w) n) y →
-          Kept r d e (sideAfter r m (packet p) s (callsOf r m (packet p) s) (counted l (l .due)) w n)
-          (receives (callsOf r m (packet p) s) false y)
-      packet-kept n p u host z =
-          let l₁ = counted l (l .due) in
-          let got = deliver r (Fits d r) l m p w n (z .0) (z .1) There (z .2)
-          (onward r (z .0) (z .1) (λ g h. idle-packets (Fits d r) r g l m (l .due) u h) (z .4)) in
-          closes H r d e m (packet p) s (callsOf r m (packet p) s) l₁ w n y false (got .0) host (got .1)
-          (runs d r s (step r m (packet p)) 0 l₁ (got .0) (z .1) (y .queue) (y .signs) There
-          (H .fair (step r m (packet p)) s host) (z .3) (got .2))
+        -- the oldest packet
+        pub packet-kept :
+            (n : ℕ) (p : Packet) → urgent (l .due) ≡ false → Host (step r m (packet p)) s →
+            InStep r d e (side (idle m) l (p ∷ w) n) y →
+            Kept r d e (sideAfter r m (packet p) s (callsOf r m (packet p) s) (counted l (l .due)) w n)
+            (receives (callsOf r m (packet p) s) false y)
+        packet-kept n p u host z =
+            let l₁ = counted l (l .due) in
+            let got = deliver r (Fits d r) l m p w n (z .0) (z .1) There (z .2)
+            (onward r (z .0) (z .1) (λ g h. idle-packets (Fits d r) r g l m (l .due) u h) (z .4)) in
+            closes H r d e m (packet p) s (callsOf r m (packet p) s) l₁ w n y false (got .0) host (got .1)
+            (runs d r s (step r m (packet p)) 0 l₁ (got .0) (z .1) (y .queue) (y .signs) There
+            (H .fair (step r m (packet p)) s host) (z .3) (got .2))
 
-      module _ (ε : Event) (earlier later : List Event) where
-        abbrev taken : List Call
-        taken = callsOf r m (event ε) s
+        module _ (ε : Event) (earlier later : List Event) where
+          abbrev taken : List Call
+          taken = callsOf r m (event ε) s
 
-        -- an event, and the signal that it may be
-        pub event-kept :
-            (n : ℕ) → l .due ≡ earlier ++ (ε ∷ later) → gated r ε ≡ false → Host (step r m (event ε)) s →
-            InStep r d e (side (idle m) l w n) y →
-            Kept r d e (sideAfter r m (event ε) s taken (counted l (earlier ++ later)) w n) (receives taken (signals r ε) y)
-        event-kept n q u host z =
-            let l₁ = counted l (earlier ++ later) in
-            let p = step r m (event ε) in
-            let b = signals r ε in
-            let due = onward r (z .0) (z .1) {X₁ = λ g. Emits r (signalItem b) g (λ g₁. Fits d r g₁ l₁ p)} (λ g h.
-            subst (λ x. Takes x b r g (λ g₁. Fits d r g₁ l₁ p)) u
-            (idle-event (Fits d r) r g l m (l .due) ε earlier later q h)) (z .4) in
-            closes H r d e m (event ε) s taken l₁ w n y b (z .0) host (z .2)
-            (runs d r s p 0 l₁ (z .0) (z .1 ++ optional (signalItem b)) (y .queue) (plusOne b (y .signs)) There
-            (H .fair p s host) (held-signal b (z .1) (y .queue) (y .signs) (z .3))
-            (emit r (signalItem b) (z .0) (z .1) (λ g. Fits d r g l₁ p) There due))
+          -- an event, and the signal that it may be
+          pub event-kept :
+              (n : ℕ) → l .due ≡ earlier ++ (ε ∷ later) → gated r ε ≡ false → Host (step r m (event ε)) s →
+              InStep r d e (side (idle m) l w n) y →
+              Kept r d e (sideAfter r m (event ε) s taken (counted l (earlier ++ later)) w n)
+              (receives taken (signals r ε) y)
+          event-kept n q u host z =
+              let l₁ = counted l (earlier ++ later) in
+              let p = step r m (event ε) in
+              let b = signals r ε in
+              let due = onward r (z .0) (z .1) {X₁ = λ g. Emits r (signalItem b) g (λ g₁. Fits d r g₁ l₁ p)} (λ g h.
+              subst (λ x. Takes x b r g (λ g₁. Fits d r g₁ l₁ p)) u
+              (idle-event (Fits d r) r g l m (l .due) ε earlier later q h)) (z .4) in
+              closes H r d e m (event ε) s taken l₁ w n y b (z .0) host (z .2)
+              (runs d r s p 0 l₁ (z .0) (z .1 ++ optional (signalItem b)) (y .queue) (plusOne b (y .signs)) There
+              (H .fair p s host) (held-signal b (z .1) (y .queue) (y .signs) (z .3))
+              (emit r (signalItem b) (z .0) (z .1) (λ g. Fits d r g l₁ p) There due))
 
-        -- an event behind a signal of the other end
-        pub behind-kept :
-            (n : ℕ) → l .due ≡ earlier ++ (ε ∷ later) → gated r ε ≡ true → Host (step r m (event ε)) s →
-            InStep r d e (side (idle m) l w (suc n)) y →
-            Kept r d e (sideAfter r m (event ε) s taken (counted l (earlier ++ later)) w n) (receives taken false y)
-        behind-kept n q u host z =
-            let l₁ = counted l (earlier ++ later) in
-            let p = step r m (event ε) in
-            let due = onward r (z .0) (z .1) {X₁ = λ g. Behind r g (λ g₁. Fits d r g₁ l₁ p)} (λ g h.
-            subst (λ x. Takes x (signals r ε) r g (λ g₁. Fits d r g₁ l₁ p)) u
-            (idle-event (Fits d r) r g l m (l .due) ε earlier later q h)) (z .4) in
-            let used = use-signal r (λ g. Fits d r g l₁ p) There w n (z .0) (z .1) (z .2) due in
-            closes H r d e m (event ε) s taken l₁ w n y false (used .0) host (used .1)
-            (runs d r s p 0 l₁ (used .0) (z .1) (y .queue) (y .signs) There (H .fair p s host) (z .3) (used .2))
+          -- an event behind a signal of the other end
+          pub behind-kept :
+              (n : ℕ) → l .due ≡ earlier ++ (ε ∷ later) → gated r ε ≡ true → Host (step r m (event ε)) s →
+              InStep r d e (side (idle m) l w (suc n)) y →
+              Kept r d e (sideAfter r m (event ε) s taken (counted l (earlier ++ later)) w n) (receives taken false y)
+          behind-kept n q u host z =
+              let l₁ = counted l (earlier ++ later) in
+              let p = step r m (event ε) in
+              let due = onward r (z .0) (z .1) {X₁ = λ g. Behind r g (λ g₁. Fits d r g₁ l₁ p)} (λ g h.
+              subst (λ x. Takes x (signals r ε) r g (λ g₁. Fits d r g₁ l₁ p)) u
+              (idle-event (Fits d r) r g l m (l .due) ε earlier later q h)) (z .4) in
+              let used = use-signal r (λ g. Fits d r g l₁ p) There w n (z .0) (z .1) (z .2) due in
+              closes H r d e m (event ε) s taken l₁ w n y false (used .0) host (used .1)
+              (runs d r s p 0 l₁ (used .0) (z .1) (y .queue) (y .signs) There (H .fair p s host) (z .3) (used .2))
 
-      -- an open step that is run again, on more answers
-      pub again-kept :
-          (n : ℕ) (i : Input) (x : Octet) (s₁ : List Octet) → Host (step r m i) (s ++ (x ∷ s₁)) →
-          InStep r d e (side (busy m i s) l w n) y →
-          let new = drop (length (callsOf r m i s)) (callsOf r m i (s ++ (x ∷ s₁))) in
-          Kept r d e (sideAfter r m i (s ++ (x ∷ s₁)) new l w n) (receives new false y)
-      again-kept n i x s₁ host z =
-          let p = step r m i in
-          let s₂ = s ++ (x ∷ s₁) in
-          let new = drop (length (callsOf r m i s)) (callsOf r m i s₂) in
-          let held = somewhere r (z .0) (z .1) (λ g. Holds d r g l (busy m i s)) There (z .4) .1 in
-          let q = wanting-last read (H .reads) s p 0 (held .1) in
-          let at = play read s p 0 .place in
-          let f = subst (λ t. FairOf s₂ t at) (q .4) (fair-again (H .reads) s (x ∷ s₁) p 0 (H .fair p s₂ host)) in
-          let longer : at < length s₂ = omega (arith, q .5, length-append s (x ∷ s₁)) in
-          let stands = onward r (z .0) (z .1) {X₁ = λ g. Stands d r g l (ask (q .1) (q .2))} (λ g h.
-          subst (λ t. Stands d r g l t) (q .4) (h .2)) (z .4) in
-          let on = runs-on (H .reads) d r s₂ (q .1) (q .2) at l (z .0) (z .1) (y .queue) (y .signs) There longer f
-          (z .3) stands in
-          let left = rest-again read (H .reads) s (x ∷ s₁) p 0 ∙ ap (λ t. rest read s₂ t at) (q .4) in
-          let listed = again-new read (H .reads) s (x ∷ s₁) p 0 (held .1)
-          ∙ ap (λ t. tail (play read s₂ t at .calls)) (q .4) in
-          closes H r d e m i s₂ new l w n y false (z .0) host (z .2)
-          (subst₂ (λ t cs. Comes d r t cs l (z .0) (y .queue) (y .signs) There) (sym left) (sym listed) on)
+        -- an open step that is run again, on more answers
+        pub again-kept :
+            (n : ℕ) (i : Input) (x : Octet) (s₁ : List Octet) → Host (step r m i) (s ++ (x ∷ s₁)) →
+            InStep r d e (side (busy m i s) l w n) y →
+            let new = drop (length (callsOf r m i s)) (callsOf r m i (s ++ (x ∷ s₁))) in
+            Kept r d e (sideAfter r m i (s ++ (x ∷ s₁)) new l w n) (receives new false y)
+        again-kept n i x s₁ host z =
+            let p = step r m i in
+            let s₂ = s ++ (x ∷ s₁) in
+            let new = drop (length (callsOf r m i s)) (callsOf r m i s₂) in
+            let held = somewhere r (z .0) (z .1) (λ g. Holds d r g l (busy m i s)) There (z .4) .1 in
+            let q = wanting-last read (H .reads) s p 0 (held .1) in
+            let at = play read s p 0 .place in
+            let f = subst (λ t. FairOf s₂ t at) (q .4) (fair-again (H .reads) s (x ∷ s₁) p 0 (H .fair p s₂ host)) in
+            let longer : at < length s₂ = omega (arith, q .5, length-append s (x ∷ s₁)) in
+            let stands = onward r (z .0) (z .1) {X₁ = λ g. Stands d r g l (ask (q .1) (q .2))} (λ g h.
+            subst (λ t. Stands d r g l t) (q .4) (h .2)) (z .4) in
+            let on = runs-on (H .reads) d r s₂ (q .1) (q .2) at l (z .0) (z .1) (y .queue) (y .signs) There longer f
+            (z .3) stands in
+            let left = rest-again read (H .reads) s (x ∷ s₁) p 0 ∙ ap (λ t. rest read s₂ t at) (q .4) in
+            let listed = again-new read (H .reads) s (x ∷ s₁) p 0 (held .1)
+            ∙ ap (λ t. tail (play read s₂ t at .calls)) (q .4) in
+            closes H r d e m i s₂ new l w n y false (z .0) host (z .2)
+            (subst₂ (λ t cs. Comes d r t cs l (z .0) (y .queue) (y .signs) There) (sym left) (sym listed) on)
 
     -- ---- some move is allowed, or the protocol has finished
 
     -- a move that an end may make; with no answers yet, or with one more
     pub data Can (r : Party) (x : Side) : Type 0 where
       packet-can :
-          (m : Machine) (p : Packet) (w : List Packet) → x .act ≡ idle m → x .queue ≡ p ∷ w → x .state .due ≡ [] → Can r x
+          (m : Machine) (p : Packet) (w : List Packet) → x .act ≡ idle m → x .queue ≡ p ∷ w → x .state .due ≡ [] →
+          Can r x
       event-can :
           (m : Machine) (ε : Event) → x .act ≡ idle m → x .state .due ≡ ε ∷ [] → gated r ε ≡ false → Can r x
       behind-can :
@@ -764,7 +774,8 @@ module _ (S : System) where
     either-bool false = inr refl
 
     moves :
-        (r : Party) (d : ℕ) (a : Act) (log : Log) (v : List Event) (k : ℕ) (w : List Packet) (n : ℕ) (to from : List Item)
+        (r : Party) (d : ℕ) (a : Act) (log : Log) (v : List Event) (k : ℕ) (w : List Packet) (n : ℕ)
+        (to from : List Item)
         (Y : Protocol → Type 1) → Held to w n →
         Sync r to from (λ g. Holds d r g (locally log v k) a) Y →
         Can r (side a (locally log v k) w n) ⊎ Rests r (side a (locally log v k) w n)
@@ -821,7 +832,8 @@ module _ (S : System) where
           (v : List Event) → Waits r v → Idle (Fits d r) r (finish F j) l m v → (v ≡ []) × F r m l
       rests-finished F j [] u h = (refl, h .0)
       rests-finished F j (ε ∷ []) u h =
-          never (subst (λ b. Takes b (signals r ε) r (finish F j) (λ g. Fits d r g (counted l []) (step r m (event ε)))) u (h .0))
+          never (subst (λ b. Takes b (signals r ε) r (finish F j) (λ g. Fits d r g (counted l []) (step r m (event ε))))
+          u (h .0))
       rests-finished F j (ε ∷ (ε₁ ∷ v)) u h = never h
 
     -- what is left where no move is: nothing is queued, due or open, and the goal holds
@@ -841,9 +853,11 @@ module _ (S : System) where
         Holds d opener g l (idle m) → Holds e replier g l₁ (idle m₁) →
         (l .due ≡ []) × (l₁ .due ≡ []) × Goal m l m₁ l₁
     over d e (message opener D pk K) l l₁ m m₁ u u₁ h h₁ = absurd (rests-not-speaks d opener l m D pk K (l .due) u h)
-    over d e (message replier D pk K) l l₁ m m₁ u u₁ h h₁ = absurd (rests-not-speaks e replier l₁ m₁ D pk K (l₁ .due) u₁ h₁)
+    over d e (message replier D pk K) l l₁ m m₁ u u₁ h h₁ =
+        absurd (rests-not-speaks e replier l₁ m₁ D pk K (l₁ .due) u₁ h₁)
     over d e (signal opener D pk K) l l₁ m m₁ u u₁ h h₁ = absurd (rests-not-signals d opener l m D pk K (l .due) u h)
-    over d e (signal replier D pk K) l l₁ m m₁ u u₁ h h₁ = absurd (rests-not-signals e replier l₁ m₁ D pk K (l₁ .due) u₁ h₁)
+    over d e (signal replier D pk K) l l₁ m m₁ u u₁ h h₁ =
+        absurd (rests-not-signals e replier l₁ m₁ D pk K (l₁ .due) u₁ h₁)
     over d e (finish F j) l l₁ m m₁ u u₁ h h₁ =
         let t = rests-finished d opener l m F j (l .due) u h in
         let t₁ = rests-finished e replier l₁ m₁ F j (l₁ .due) u₁ h₁ in
@@ -864,7 +878,8 @@ module _ (S : System) where
         go
         (can-or-rests opener d x (z .0) (z .1) (λ g. Holds e replier g (y .state) (y .act)) (z .2) (z .4))
         (can-or-rests replier e y (z .1) (z .0) (λ g. Holds d opener g (x .state) (x .act)) (z .3)
-        (turn opener (z .0) (z .1) (λ g. Holds d opener g (x .state) (x .act)) (λ g. Holds e replier g (y .state) (y .act)) (z .4)))
+        (turn opener (z .0) (z .1) (λ g. Holds d opener g (x .state) (x .act))
+        (λ g. Holds e replier g (y .state) (y .act)) (z .4)))
       where
         go : Can opener x ⊎ Rests opener x → Can replier y ⊎ Rests replier y → (Can opener x ⊎ Can replier y) ⊎ Over x y
         go (inl c) b = inl (inl c)
@@ -872,7 +887,8 @@ module _ (S : System) where
         go (inr a) (inr b) =
             let none-to = held-nothing (z .0) (subst₂ (Held (z .0)) (a .noPacket) (a .noSign) (z .2)) in
             let none-from = held-nothing (z .1) (subst₂ (Held (z .1)) (b .noPacket) (b .noSign) (z .3)) in
-            let at = meet (z .0) (z .1) (λ g. Holds d opener g (x .state) (x .act)) (λ g. Holds e replier g (y .state) (y .act))
+            let at = meet (z .0) (z .1) (λ g. Holds d opener g (x .state) (x .act))
+            (λ g. Holds e replier g (y .state) (y .act))
             none-to none-from (z .4) in
             let end = over d e (at .0) (x .state) (y .state) (a .machine) (b .machine) (a .waits) (b .waits)
             (subst (λ c. Holds d opener (at .0) (x .state) c) (a .isIdle) (at .1))

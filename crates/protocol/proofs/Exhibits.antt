@@ -25,7 +25,7 @@ use Rattle.answer.specs.Answers.{bodyAt, verdictAt, flagAt, irkAt}
 use Rattle.protocol.specs.Handlers.{featuresIn}
 use Rattle.protocol.specs.LegacyPeripheral.{initiatorKeys, responderKeys, responseFeatures, «handle_pairing_request», transition, «handle_input»}
 use Rattle.protocol.specs.Step.{playOf, step}
-use Rattle.protocol.specs.FairLink.{Start, AreOctets, NamesNoMore, FairStart, Shared, Link, freshHead, requestOf, freshLink, stepAt, callsAt, MoveKind, anInput, Move, takePacket, takeEvent, runAgain, Moves, noMove, move, Run}
+use Rattle.protocol.specs.FairLink.{Start, AreOctets, NamesNoMore, FairStart, Shared, Link, freshHead, requestOf, freshLink, stepAt, callsAt, anInput, Move, takePacket, takeEvent, runAgain, Moves, noMove, move, Run}
 use Rattle.protocol.specs.FairRuns.{entries, keys, responseIn, responsesIn, WaitsForIdentityKey}
 use Rattle.protocol.proofs.FairSides.{of-all-append}
 use Rattle.protocol.proofs.FairRunsEnd.{every-fair-run-ends}
@@ -89,7 +89,8 @@ plain-method : (answer : PairingFeatures) → entries (legacyMethod plain answer
 unfolding legacyMethod
 plain-method answer = go (wantsMitm answer) (answer .«io_capabilities»)
   where
-    go : (mitm : Bool) (x : IoCapabilities) → entries (cond (not mitm) method.JustWorks (ioMethod io.NoInputNoOutput x)) ≡ 0
+    go : (mitm : Bool) (x : IoCapabilities) → entries (cond (not mitm) method.JustWorks (ioMethod io.NoInputNoOutput x))
+        ≡ 0
     go false x = refl
     go true io.DisplayOnly = refl
     go true io.DisplayYesNo = refl
@@ -142,7 +143,9 @@ bondingHost = 0x30 ∷ 0 ∷ 0x31 ∷ (replicate 16 1 ++ (0x33 ∷ 1 ∷ 0x34 �
 first-step :
     (shared : Shared) (a b : Address) →
     (L : Link) × Move shared (freshLink (startOf a b full full)) anInput L × (responsesIn (L .head .calls) ≡ full ∷ [])
-unfolding freshLink freshHead newMachine stepAt callsAt step playOf «handle_input» transition «handle_pairing_request» featuresIn responseFeatures initiatorKeys responderKeys legacyMethod bodyAt flagAt irkAt verdictAt featuresOf sameWord wordOf
+unfolding freshLink freshHead newMachine stepAt callsAt step playOf «handle_input» transition «handle_pairing_request»
+    featuresIn responseFeatures initiatorKeys responderKeys legacyMethod bodyAt flagAt irkAt verdictAt featuresOf sameWord
+    wordOf
 first-step shared a b = (
   _,
   takePacket Peripheral (requestOf (startOf a b full full)) [] bondingHost refl refl refl
@@ -176,7 +179,8 @@ calls-grow {L = L} {L₁ = L₁} (move (runAgain Peripheral g answers x added o 
 full-answer : (first : Link) (L : Link) (more : List Call) (answer : PairingFeatures) →
     responsesIn (first .head .calls) ≡ full ∷ [] → L .head .calls ≡ first .head .calls ++ more →
     responsesIn (L .head .calls) ≡ answer ∷ [] → answer ≡ full
-full-answer first L more answer q r e = head-same (sym e ∙ ap responsesIn r ∙ of-all-append responseIn (first .head .calls) more ∙ ap (λ x. x ++ responsesIn more) q)
+full-answer first L more answer q r e =
+    head-same (sym e ∙ ap responsesIn r ∙ of-all-append responseIn (first .head .calls) more ∙ ap (λ x. x ++ responsesIn more) q)
   where
     head-same : {x y : PairingFeatures} {l : List PairingFeatures} → x ∷ [] ≡ y ∷ l → x ≡ y
     head-same h = ap (λ l. headOr full l) h

@@ -3,7 +3,7 @@
 use Prim.Native.Nat.{ℕ, suc, _+_, _≤_, _<_}
 use mathlib.Core.Path.{_≡_, refl, sym, ap, _∙_, subst, subst₂}
 use mathlib.Core.Bool.{Bool, true, false, not, _&&_, true≢false}
-use mathlib.Core.List.{List, [], _∷_, _++_, append-assoc}
+use mathlib.Core.List.{List, [], _∷_, _++_}
 use mathlib.Core.Logic.{_⊎_, inl, inr}
 use mathlib.Core.Option.{Option, none, some}
 use native.Mathlib.Omega.{arith}
@@ -15,34 +15,41 @@ use Rattle.machine.specs.declared.Role.the-variants.{Central, Peripheral}
 use Rattle.protocol.specs.declared.Outcome.{Outcome}
 use Rattle.protocol.specs.declared.Outcome.the-variants as outcome
 use Rattle.protocol.specs.Program.{wanting, play}
-use Rattle.protocol.specs.Ops.{replySort, Reply, replyAt, Program}
+use Rattle.protocol.specs.Ops.{replyAt, Program}
 use Rattle.protocol.specs.Step.{handleInput, playOf}
-use Rattle.protocol.specs.FairLink.{Start, Shared, AreOctets, FairAnswers, QueuedPacket, Due, passKey, oobData, encryptionOn, Given, aPacket, anEvent, inputOf, payloadOf, OpenStep, End, Link, endOf, ofAll, sentBy, hasListed, madeDueByAll, machineAt, stepAt, callsAt, FairHost, openAfter, hadOobAfter, endAfter, receives, linkAfter, MoveKind, anInput, aReRun, reportDue, MayTake, Move, takePacket, takeEvent, runAgain, outcomeOf, countInput}
+use Rattle.protocol.specs.FairLink.{Start, Shared, AreOctets, FairAnswers, QueuedPacket, Due, passKey, oobData, encryptionOn, Given, aPacket, anEvent, inputOf, payloadOf, OpenStep, End, Link, endOf, hasListed, madeDueByAll, stepAt, callsAt, FairHost, openAfter, hadOobAfter, endAfter, receives, linkAfter, MoveKind, anInput, aReRun, reportDue, MayTake, Move, takePacket, takeEvent, runAgain, outcomeOf, countInput}
 use Rattle.protocol.specs.FairRuns.{NotRefused}
 use Rattle.protocol.proofs.Programs.{along}
 use Rattle.protocol.proofs.Replies.{reads}
 use Rattle.protocol.proofs.Allowed.{no-answers}
 use Rattle.protocol.proofs.FairReplies.{fair-reply, more-answers}
-use Rattle.protocol.proofs.Exchange.{Party, opener, replier, other, plusOne, locally, counted, FairOf, Hosts, Act, Side, side, InStep, in-step-turned, sideAfter, callsOf, Kept, packet-kept, event-kept, behind-kept, again-kept, Can, packet-can, event-can, behind-can, again-can, Over, progress}
+use Rattle.protocol.proofs.Exchange.{Party, opener, replier, plusOne, System, Local, locally, FairOf, Hosts, Act, Side, side, InStep, in-step-turned, sideAfter, Kept, packet-kept, event-kept, behind-kept, again-kept, Can, packet-can, event-can, behind-can, again-can, Over, progress}
 use Rattle.protocol.proofs.Exchange.{receives as received}
 use Rattle.protocol.proofs.Pairing.{roleOf, summary, oobOf, oobBefore, pairing, Agreed}
 use Rattle.protocol.proofs.FairSides.{actOf, sideOf, note-all, send-all, KnownGiven, AllKnown, all-known, act-after, not-refused, one, oobs, oobs-append, oobs-made-by-all, OobOnce}
 
 module _ (shared : Shared) (s : Start) where
+  abbrev pub Ends : System
+  Ends = pairing shared
+
+  abbrev pub Agrees : Machine → Local Ends → Machine → Local Ends → Type 0
+  Agrees = Agreed shared s
+
   -- ---- hosts are fair
 
   fair-of :
       (answers : List ℕ) (p : Program Machine) (at : ℕ) → AreOctets answers → FairAnswers shared p answers at →
-      FairOf (pairing shared) (Agreed shared s) answers p at
+      FairOf Ends Agrees answers p at
   fair-of answers p at octets =
-      along replyAt answers (λ p at. FairAnswers shared p answers at → FairOf (pairing shared) (Agreed shared s) answers p at)
+      along replyAt answers (λ p at. FairAnswers shared p answers at → FairOf Ends Agrees answers p at)
       (λ m at f. tt)
       (λ c k at e f. rw e tt)
       (λ c k at e f. absurd (rw e at f))
-      (λ c k at x n e rec f. let f₁ = rw e at f in rw e (fair-reply shared c answers at x n octets e (f₁ .0), rec (f₁ .1)))
+      (λ c k at x n e rec f. let f₁ =
+      rw e at f in rw e (fair-reply shared c answers at x n octets e (f₁ .0), rec (f₁ .1)))
       p at
 
-  hosts : Hosts (pairing shared) (Agreed shared s)
+  hosts : Hosts Ends Agrees
   hosts = record { reads = reads; fair = λ p answers h. fair-of answers p 0 (h .0) (h .1) }
 
   -- ---- what holds of an end besides
@@ -67,7 +74,8 @@ module _ (shared : Shared) (s : Start) where
   open-known outcome.Wants g answers k = k
   open-known (outcome.Refused n) g answers k = tt
 
-  open-had : (o : Outcome) (g : Given) (answers : List ℕ) (had : Bool) → HadBy (openAfter o g answers) (hadOobAfter g had)
+  open-had : (o : Outcome) (g : Given) (answers : List ℕ) (had : Bool) →
+      HadBy (openAfter o g answers) (hadOobAfter g had)
   open-had outcome.Ended g answers had = tt
   open-had outcome.Wants (aPacket p) answers had = refl
   open-had outcome.Wants (anEvent passKey) answers had = refl
@@ -77,7 +85,8 @@ module _ (shared : Shared) (s : Start) where
 
   -- the end that moved
   after-sound :
-      (r : Role) (L : Link) (g : Given) (answers : List ℕ) (queue : List QueuedPacket) (due : List Due) (new : List Call) →
+      (r : Role) (L : Link) (g : Given) (answers : List ℕ) (queue : List QueuedPacket) (due : List Due)
+      (new : List Call) →
       KnownGiven shared s g → AllKnown shared s queue →
       oobs due + one (hadOobAfter g (endOf r L .hadOob)) ≡ one (hasListed 0x25 (endOf r L .calls)) →
       Sound (endAfter shared r L g answers queue due new)
@@ -87,7 +96,12 @@ module _ (shared : Shared) (s : Start) where
         opened = open-known (stepAt shared r L g answers .stepped .outcome) g answers k;
         hadBy = open-had (stepAt shared r L g answers .stepped .outcome) g answers (endOf r L .hadOob);
         oobOnce =
-            omega (arith, o, oobs-append due (madeDueByAll (endOf r L .calls) new), oobs-made-by-all new (endOf r L .calls));
+            omega (
+              arith,
+              o,
+              oobs-append due (madeDueByAll (endOf r L .calls) new),
+              oobs-made-by-all new (endOf r L .calls),
+            );
       }
 
   -- the other end
@@ -102,10 +116,10 @@ module _ (shared : Shared) (s : Start) where
 
   receives-side :
       (new : List Call) (e : End) (b : Bool) (k n : ℕ) →
-      received (pairing shared) (Agreed shared s) new b (sideOf shared s k n e) ≡ sideOf shared s k (plusOne b n) (receives new e)
+      received Ends Agrees new b (sideOf shared s k n e) ≡ sideOf shared s k (plusOne b n) (receives new e)
   receives-side new e b k n =
-      ap (λ q. side (pairing shared) (Agreed shared s) (actOf shared s (e .machine) (e .openStep))
-      (locally (pairing shared) (summary (e .calls)) (e .due) k) q (plusOne b n)) (send-all shared s new (e .queue))
+      ap (λ q. side Ends Agrees (actOf shared s (e .machine) (e .openStep))
+      (locally Ends (summary (e .calls)) (e .due) k) q (plusOne b n)) (send-all shared s new (e .queue))
 
   -- ---- a step of one end
 
@@ -117,51 +131,53 @@ module _ (shared : Shared) (s : Start) where
     abbrev After : Given → List ℕ → List QueuedPacket → List Due → List Call → (inputs n n₂ : ℕ) → Type 1
     After g answers queue due new inputs n n₂ =
         (d₁ : ℕ) × (d₁ < d)
-        × InStep (pairing shared) (Agreed shared s) p d₁ e
+        × InStep Ends Agrees p d₁ e
         (sideOf shared s inputs n (endAfter shared (roleOf p) L g answers queue due new))
         (sideOf shared s k₂ n₂ (receives new that))
 
     after-side :
         (g : Given) (answers : List ℕ) (queue : List QueuedPacket) (due : List Due) (new : List Call) (inputs n : ℕ) →
         KnownGiven shared s g →
-        sideAfter (pairing shared) (Agreed shared s) p (this .machine) g answers new
-        (locally (pairing shared) (summary (this .calls)) due inputs) queue n
+        sideAfter Ends Agrees p (this .machine) g answers new
+        (locally Ends (summary (this .calls)) due inputs) queue n
         ≡ sideOf shared s inputs n (endAfter shared (roleOf p) L g answers queue due new)
     after-side g answers queue due new inputs n known =
         rw (note-all shared s new (this .calls) due inputs, act-after shared s (roleOf p) L g answers known) refl
 
     after :
-        (g : Given) (answers : List ℕ) (queue : List QueuedPacket) (due : List Due) (new : List Call) (inputs n : ℕ) (b : Bool) →
+        (g : Given) (answers : List ℕ) (queue : List QueuedPacket) (due : List Due) (new : List Call) (inputs n : ℕ)
+        (b : Bool) →
         KnownGiven shared s g →
-        Kept (pairing shared) (Agreed shared s) p d e
-        (sideAfter (pairing shared) (Agreed shared s) p (this .machine) g answers new
-        (locally (pairing shared) (summary (this .calls)) due inputs) queue n)
-        (received (pairing shared) (Agreed shared s) new b (sideOf shared s k₂ n₂ that)) →
+        Kept Ends Agrees p d e
+        (sideAfter Ends Agrees p (this .machine) g answers new
+        (locally Ends (summary (this .calls)) due inputs) queue n)
+        (received Ends Agrees new b (sideOf shared s k₂ n₂ that)) →
         After g answers queue due new inputs n (plusOne b n₂)
     after g answers queue due new inputs n b known z = (
       z .0,
       z .1,
-      subst₂ (λ x y. InStep (pairing shared) (Agreed shared s) p (z .0) e x y)
+      subst₂ (λ x y. InStep Ends Agrees p (z .0) e x y)
           (after-side g answers queue due new inputs n known) (receives-side new that b k₂ n₂) (z .2),
     )
 
     -- an end in no step, with these packets, in step with the other
     abbrev Before : (n : ℕ) → List QueuedPacket → Type 1
     Before n queue =
-        InStep (pairing shared) (Agreed shared s) p d e
-        (side (pairing shared) (Agreed shared s) (actOf shared s (this .machine) none)
-        (locally (pairing shared) (summary (this .calls)) (this .due) k) queue n)
+        InStep Ends Agrees p d e
+        (side Ends Agrees (actOf shared s (this .machine) none)
+        (locally Ends (summary (this .calls)) (this .due) k) queue n)
         (sideOf shared s k₂ n₂ that)
 
     abbrev InStepThere : (n : ℕ) → Type 1
     InStepThere n =
-        InStep (pairing shared) (Agreed shared s) p d e (sideOf shared s k n this) (sideOf shared s k₂ n₂ that)
+        InStep Ends Agrees p d e (sideOf shared s k n this) (sideOf shared s k₂ n₂ that)
 
-    not-open : (n : ℕ) (queue : List QueuedPacket) → this .openStep ≡ none → this .queue ≡ queue → InStepThere n → Before n queue
+    not-open : (n : ℕ) (queue : List QueuedPacket) → this .openStep ≡ none → this .queue ≡ queue → InStepThere n →
+        Before n queue
     not-open n queue o q z =
-        subst₂ (λ x w. InStep (pairing shared) (Agreed shared s) p d e
-        (side (pairing shared) (Agreed shared s) (actOf shared s (this .machine) x)
-        (locally (pairing shared) (summary (this .calls)) (this .due) k) w n)
+        subst₂ (λ x w. InStep Ends Agrees p d e
+        (side Ends Agrees (actOf shared s (this .machine) x)
+        (locally Ends (summary (this .calls)) (this .due) k) w n)
         (sideOf shared s k₂ n₂ that)) o q z
 
     packet-step :
@@ -172,8 +188,8 @@ module _ (shared : Shared) (s : Start) where
     unfolding callsAt playOf
     packet-step n x queue answers o q u host known z =
         after (aPacket x) answers queue (this .due) _ (suc k) n false known
-        (packet-kept (pairing shared) (Agreed shared s) hosts p d e (this .machine)
-        (locally (pairing shared) (summary (this .calls)) (this .due) k) queue answers (sideOf shared s k₂ n₂ that) n x u
+        (packet-kept Ends Agrees hosts p d e (this .machine)
+        (locally Ends (summary (this .calls)) (this .due) k) queue answers (sideOf shared s k₂ n₂ that) n x u
         (host .octets, host .fair) (not-open n (x ∷ queue) o q z))
 
     module _ (ε : Due) (earlier later : List Due) (answers : List ℕ) where
@@ -185,8 +201,8 @@ module _ (shared : Shared) (s : Start) where
       unfolding callsAt playOf
       event-step n o q u host z =
           after (anEvent ε) answers (this .queue) (earlier ++ later) _ (suc k) n (oobBefore p ε) tt
-          (event-kept (pairing shared) (Agreed shared s) hosts p d e (this .machine)
-          (locally (pairing shared) (summary (this .calls)) (this .due) k) (this .queue) answers (sideOf shared s k₂ n₂ that)
+          (event-kept Ends Agrees hosts p d e (this .machine)
+          (locally Ends (summary (this .calls)) (this .due) k) (this .queue) answers (sideOf shared s k₂ n₂ that)
           ε earlier later n q u (host .octets, host .fair) (not-open n (this .queue) o refl z))
 
       behind-step :
@@ -197,8 +213,8 @@ module _ (shared : Shared) (s : Start) where
       unfolding callsAt playOf
       behind-step n o q u host z =
           after (anEvent ε) answers (this .queue) (earlier ++ later) _ (suc k) n false tt
-          (behind-kept (pairing shared) (Agreed shared s) hosts p d e (this .machine)
-          (locally (pairing shared) (summary (this .calls)) (this .due) k) (this .queue) answers (sideOf shared s k₂ n₂ that)
+          (behind-kept Ends Agrees hosts p d e (this .machine)
+          (locally Ends (summary (this .calls)) (this .due) k) (this .queue) answers (sideOf shared s k₂ n₂ that)
           ε earlier later n q u (host .octets, host .fair) (not-open (suc n) (this .queue) o refl z))
 
     again-step :
@@ -211,12 +227,12 @@ module _ (shared : Shared) (s : Start) where
     unfolding callsAt playOf
     again-step n g answers x added o host known z =
         after g (answers ++ (x ∷ added)) (this .queue) (this .due) _ k n false known
-        (again-kept (pairing shared) (Agreed shared s) hosts p d e (this .machine)
-        (locally (pairing shared) (summary (this .calls)) (this .due) k) (this .queue) answers (sideOf shared s k₂ n₂ that)
+        (again-kept Ends Agrees hosts p d e (this .machine)
+        (locally Ends (summary (this .calls)) (this .due) k) (this .queue) answers (sideOf shared s k₂ n₂ that)
         n g x added (host .octets, host .fair)
-        (subst (λ y. InStep (pairing shared) (Agreed shared s) p d e
-        (side (pairing shared) (Agreed shared s) (actOf shared s (this .machine) y)
-        (locally (pairing shared) (summary (this .calls)) (this .due) k) (this .queue) n)
+        (subst (λ y. InStep Ends Agrees p d e
+        (side Ends Agrees (actOf shared s (this .machine) y)
+        (locally Ends (summary (this .calls)) (this .due) k) (this .queue) n)
         (sideOf shared s k₂ n₂ that)) o z))
 
   -- ---- events: what is due and what was had
@@ -254,7 +270,7 @@ module _ (shared : Shared) (s : Start) where
     pub headInputs : ℕ
     pub total : terminalInputs + headInputs ≡ inputs
     pub inStep :
-        InStep (pairing shared) (Agreed shared s) opener d e
+        InStep Ends Agrees opener d e
         (sideOf shared s terminalInputs (signs (L .terminal .hadOob) (L .head .hadOob)) (L .terminal))
         (sideOf shared s headInputs 0 (L .head))
     pub terminalSound : Sound (L .terminal)
@@ -271,10 +287,10 @@ module _ (shared : Shared) (s : Start) where
 
     -- the head's side first
     head-in-step :
-        InStep (pairing shared) (Agreed shared s) replier e d
+        InStep Ends Agrees replier e d
         (sideOf shared s (h .headInputs) 0 (L .head)) (sideOf shared s (h .terminalInputs) signsNow (L .terminal))
     head-in-step =
-        in-step-turned (pairing shared) (Agreed shared s) opener d e
+        in-step-turned Ends Agrees opener d e
         (sideOf shared s (h .terminalInputs) signsNow (L .terminal)) (sideOf shared s (h .headInputs) 0 (L .head))
         (h .inStep)
 
@@ -322,7 +338,7 @@ module _ (shared : Shared) (s : Start) where
               headInputs = k;
               total = refl;
               inStep =
-                  in-step-turned (pairing shared) (Agreed shared s) replier (z .0) d
+                  in-step-turned Ends Agrees replier (z .0) d
                   (sideOf shared s k 0 (endAfter shared Peripheral L g answers queue due new))
                   (sideOf shared s (h .terminalInputs) n₁ (receives new (L .terminal))) (z .2);
               terminalSound = receives-sound new (L .terminal) (h .terminalSound);
@@ -332,7 +348,8 @@ module _ (shared : Shared) (s : Start) where
           )
 
     open-given :
-        (x : End) (g : Given) (answers : List ℕ) → Sound x → x .openStep ≡ some (record { given = g; answers = answers }) →
+        (x : End) (g : Given) (answers : List ℕ) → Sound x → x .openStep
+        ≡ some (record { given = g; answers = answers }) →
         KnownGiven shared s g
     open-given x g answers k o = subst KnownOpen o (k .opened)
 
@@ -364,7 +381,8 @@ module _ (shared : Shared) (s : Start) where
 
       head-event :
           L .head .due ≡ earlier ++ (ε ∷ later) →
-          After replier L (L .terminal) e d (h .headInputs) (h .terminalInputs) signsNow (anEvent ε) answers (L .head .queue)
+          After replier L (L .terminal) e d (h .headInputs) (h .terminalInputs) signsNow (anEvent ε) answers
+          (L .head .queue)
           (earlier ++ later) (callsAt shared Peripheral L (anEvent ε) answers) (suc (h .headInputs)) 0
           (signs (L .terminal .hadOob) (hadOobAfter (anEvent ε) (L .head .hadOob))) →
           (L .terminal .hadOob ≡ true → hadOobAfter (anEvent ε) (L .head .hadOob) ≡ true) →
@@ -394,7 +412,8 @@ module _ (shared : Shared) (s : Start) where
         (subst (λ x. After opener L (L .head) d e (h .terminalInputs) (h .headInputs) 0 (anEvent oobData) answers
         (L .terminal .queue) (earlier ++ later) (callsAt shared Central L (anEvent oobData) answers)
         (suc (h .terminalInputs)) x 0) (sym after)
-        (behind-step opener L (L .head) d e (h .terminalInputs) (h .headInputs) 0 oobData earlier later answers 0 o q refl f
+        (behind-step opener L (L .head) d e (h .terminalInputs) (h .headInputs) 0 oobData earlier later answers 0 o q
+        refl f
         (subst (λ x. InStepThere opener L (L .head) d e (h .terminalInputs) (h .headInputs) 0 x) before (h .inStep))))
         (λ had. u)
 
@@ -408,10 +427,12 @@ module _ (shared : Shared) (s : Start) where
         let unhad = not-had earlier later (L .head .due) (L .head .hadOob) (hasListed 0x25 (L .head .calls)) q
         (h .headSound .oobOnce) in
         head-event oobData earlier later answers q
-        (subst (λ x. After replier L (L .terminal) e d (h .headInputs) (h .terminalInputs) signsNow (anEvent oobData) answers
+        (subst (λ x. After replier L (L .terminal) e d (h .headInputs) (h .terminalInputs) signsNow (anEvent oobData)
+        answers
         (L .head .queue) (earlier ++ later) (callsAt shared Peripheral L (anEvent oobData) answers)
         (suc (h .headInputs)) 0 x) (signed (L .terminal .hadOob) (L .head .hadOob) unhad (h .headFirst))
-        (event-step replier L (L .terminal) e d (h .headInputs) (h .terminalInputs) signsNow oobData earlier later answers 0
+        (event-step replier L (L .terminal) e d (h .headInputs) (h .terminalInputs) signsNow oobData earlier later
+        answers 0
         o q refl f head-in-step))
         (λ had. refl)
       where
@@ -441,18 +462,21 @@ module _ (shared : Shared) (s : Start) where
         (known .0) (known .1) (h .headSound .oobOnce) (h .headFirst))
     kept k L₁ (takeEvent Central passKey earlier later answers o q u f) =
         terminal-event passKey earlier later answers q
-        (event-step opener L (L .head) d e (h .terminalInputs) (h .headInputs) 0 passKey earlier later answers signsNow o q
+        (event-step opener L (L .head) d e (h .terminalInputs) (h .headInputs) 0 passKey earlier later answers signsNow
+        o q
         refl f (h .inStep))
         (h .headFirst)
     kept k L₁ (takeEvent Central oobData earlier later answers o q u f) = terminal-oob earlier later answers o q u f
     kept k L₁ (takeEvent Central encryptionOn earlier later answers o q u f) =
         terminal-event encryptionOn earlier later answers q
-        (event-step opener L (L .head) d e (h .terminalInputs) (h .headInputs) 0 encryptionOn earlier later answers signsNow
+        (event-step opener L (L .head) d e (h .terminalInputs) (h .headInputs) 0 encryptionOn earlier later answers
+        signsNow
         o q refl f (h .inStep))
         (h .headFirst)
     kept k L₁ (takeEvent Peripheral passKey earlier later answers o q u f) =
         head-event passKey earlier later answers q
-        (event-step replier L (L .terminal) e d (h .headInputs) (h .terminalInputs) signsNow passKey earlier later answers 0
+        (event-step replier L (L .terminal) e d (h .headInputs) (h .terminalInputs) signsNow passKey earlier later
+        answers 0
         o q refl f head-in-step)
         (h .headFirst)
     kept k L₁ (takeEvent Peripheral oobData earlier later answers o q u f) = head-oob earlier later answers o q f
@@ -466,7 +490,8 @@ module _ (shared : Shared) (s : Start) where
         let had : hadOobAfter g (L .terminal .hadOob) ≡ L .terminal .hadOob =
         subst (λ y. HadBy y (L .terminal .hadOob)) o (h .terminalSound .hadBy) in
         let new = drop (length (callsAt shared Central L g answers)) (callsAt shared Central L g (answers ++ (x ∷ added))) in
-        let z = again-step opener L (L .head) d e (h .terminalInputs) (h .headInputs) 0 signsNow g answers x added o f known
+        let z = again-step opener L (L .head) d e (h .terminalInputs) (h .headInputs) 0 signsNow g answers x added o f
+        known
         (h .inStep) in
         recounted (h .terminalInputs + h .headInputs) n L₁ (h .total)
         (terminal-moved g (answers ++ (x ∷ added)) (L .terminal .queue) (L .terminal .due) new (h .terminalInputs)
@@ -479,7 +504,8 @@ module _ (shared : Shared) (s : Start) where
         subst (λ y. HadBy y (L .head .hadOob)) o (h .headSound .hadBy) in
         let new = drop (length (callsAt shared Peripheral L g answers))
         (callsAt shared Peripheral L g (answers ++ (x ∷ added))) in
-        let z = again-step replier L (L .terminal) e d (h .headInputs) (h .terminalInputs) signsNow 0 g answers x added o f
+        let z = again-step replier L (L .terminal) e d (h .headInputs) (h .terminalInputs) signsNow 0 g answers x added
+        o f
         known head-in-step in
         recounted (h .terminalInputs + h .headInputs) n L₁ (h .total)
         (head-moved g (answers ++ (x ∷ added)) (L .head .queue) (L .head .due) new (h .headInputs)
@@ -498,13 +524,14 @@ module _ (shared : Shared) (s : Start) where
     not-refused-move k L₁ (takeEvent r ε earlier later answers o q u f) =
         not-refused shared s r L (anEvent ε) answers tt f
     not-refused-move k L₁ (runAgain Central g answers x added o f) =
-        not-refused shared s Central L g (answers ++ (x ∷ added)) (open-given (L .terminal) g answers (h .terminalSound) o) f
+        not-refused shared s Central L g (answers ++ (x ∷ added))
+        (open-given (L .terminal) g answers (h .terminalSound) o) f
     not-refused-move k L₁ (runAgain Peripheral g answers x added o f) =
         not-refused shared s Peripheral L g (answers ++ (x ∷ added)) (open-given (L .head) g answers (h .headSound) o) f
 
   -- ---- a move that an end can make is one that the link allows
 
-  abbrev IsIdle : Act (pairing shared) (Agreed shared s) → Type 0
+  abbrev IsIdle : Act Ends Agrees → Type 0
   IsIdle (Act.idle m) = Unit {0}
   IsIdle (Act.busy m i answers) = ⊥
 
@@ -526,7 +553,7 @@ module _ (shared : Shared) (s : Start) where
     here = endOf (roleOf p) L
 
     -- the open step of an act, with a fair host, wants
-    abbrev OpenOf : Act (pairing shared) (Agreed shared s) → Type 0
+    abbrev OpenOf : Act Ends Agrees → Type 0
     OpenOf (Act.idle m) = ⊥
     OpenOf (Act.busy m i answers) =
         let program = handleInput (roleOf p) m (inputOf shared m i) (payloadOf i) in
@@ -540,7 +567,8 @@ module _ (shared : Shared) (s : Start) where
         (o .answers) (h .0) (h .1) (h .2) in
         (aReRun, _, runAgain (roleOf p) (o .given) (o .answers) (z .0) (z .1) q (record { octets = z .2; fair = z .3 }))
 
-    event-moves : (m : Machine) (ε : Due) → actOf shared s (here .machine) (here .openStep) ≡ Act.idle m → here .due ≡ ε ∷ [] → MayTake L (roleOf p) ε → Moving L
+    event-moves : (m : Machine) (ε : Due) → actOf shared s (here .machine) (here .openStep) ≡ Act.idle m → here .due ≡ ε
+        ∷ [] → MayTake L (roleOf p) ε → Moving L
     event-moves m ε e q may = (
       anInput,
       _,
@@ -559,7 +587,8 @@ module _ (shared : Shared) (s : Start) where
   Signed opener L n = n ≡ signs (L .terminal .hadOob) (L .head .hadOob)
   Signed replier L n = n ≡ 0
 
-  gated : (p : Party) (L : Link) (ε : Due) (n n₁ : ℕ) → Signed p L n → n ≡ suc n₁ → oobOf p ε ≡ true → MayTake L (roleOf p) ε
+  gated : (p : Party) (L : Link) (ε : Due) (n n₁ : ℕ) → Signed p L n → n ≡ suc n₁ → oobOf p ε ≡ true →
+      MayTake L (roleOf p) ε
   gated opener L passKey n n₁ h q u = tt
   gated opener L oobData n n₁ h q u = go (L .terminal .hadOob) (L .head .hadOob) (sym h ∙ q)
     where
@@ -571,7 +600,7 @@ module _ (shared : Shared) (s : Start) where
 
   can-moves :
       (p : Party) (L : Link) (k n : ℕ) → Signed p L n →
-      Can (pairing shared) (Agreed shared s) p (sideOf shared s k n (endOf (roleOf p) L)) → Moving L
+      Can Ends Agrees p (sideOf shared s k n (endOf (roleOf p) L)) → Moving L
   can-moves p L k n h (packet-can m x w e q v) = (
     anInput,
     _,
@@ -584,23 +613,24 @@ module _ (shared : Shared) (s : Start) where
       again-moves p L (here p L .openStep) refl (subst (OpenOf p L) (sym e) (host .0, host .1, w))
 
   -- both ends as sides, and that all is over there
-  abbrev pub terminalSide : {d e n : ℕ} {L : Link} → Ok d e n L → Side (pairing shared) (Agreed shared s)
-  terminalSide {L = L} h = sideOf shared s (h .terminalInputs) (signs (L .terminal .hadOob) (L .head .hadOob)) (L .terminal)
+  abbrev pub terminalSide : {d e n : ℕ} {L : Link} → Ok d e n L → Side Ends Agrees
+  terminalSide {L = L} h =
+      sideOf shared s (h .terminalInputs) (signs (L .terminal .hadOob) (L .head .hadOob)) (L .terminal)
 
-  abbrev pub headSide : {d e n : ℕ} {L : Link} → Ok d e n L → Side (pairing shared) (Agreed shared s)
+  abbrev pub headSide : {d e n : ℕ} {L : Link} → Ok d e n L → Side Ends Agrees
   headSide {L = L} h = sideOf shared s (h .headInputs) 0 (L .head)
 
   abbrev pub AllOver : {d e n : ℕ} {L : Link} → Ok d e n L → Type 0
-  AllOver h = Over (pairing shared) (Agreed shared s) (terminalSide h) (headSide h)
+  AllOver h = Over Ends Agrees (terminalSide h) (headSide h)
 
   -- some move is allowed, or all is over
   pub goes-on : (L : Link) (d e n : ℕ) (h : Ok d e n L) → Moving L ⊎ AllOver h
   goes-on L d e n h =
-      go (progress (pairing shared) (Agreed shared s) d e (terminalSide h) (headSide h) (h .inStep))
+      go (progress Ends Agrees d e (terminalSide h) (headSide h) (h .inStep))
     where
       go :
-          (Can (pairing shared) (Agreed shared s) opener (terminalSide h)
-          ⊎ Can (pairing shared) (Agreed shared s) replier (headSide h)) ⊎ AllOver h → Moving L ⊎ AllOver h
+          (Can Ends Agrees opener (terminalSide h)
+          ⊎ Can Ends Agrees replier (headSide h)) ⊎ AllOver h → Moving L ⊎ AllOver h
       go (inl (inl c)) =
           inl (can-moves opener L (h .terminalInputs) (signs (L .terminal .hadOob) (L .head .hadOob)) refl c)
       go (inl (inr c)) = inl (can-moves replier L (h .headInputs) 0 refl c)

@@ -1,6 +1,6 @@
 -- Demand 3: every fair run ends, and how. Assumes nothing.
-use Prim.Native.Nat.{ℕ, zero, suc, _+_, _*_, _≤_, _<_}
-use mathlib.Core.Path.{_≡_, refl, sym, ap, _∙_, subst, subst₂}
+use Prim.Native.Nat.{ℕ, zero, suc, _+_, _≤_}
+use mathlib.Core.Path.{_≡_, refl, sym, _∙_, subst, subst₂}
 use mathlib.Core.Bool.{Bool, true, false, cond}
 use mathlib.Core.List.{List, [], _∷_, _++_}
 use mathlib.Core.Logic.{_⊎_, inl, inr}
@@ -17,14 +17,13 @@ use Rattle.machine.specs.declared.Role.{Role}
 use Rattle.machine.specs.declared.Role.the-variants.{Central, Peripheral}
 use Rattle.protocol.specs.Handlers.{namesEncryptionKey, namesIdentityKey}
 use Rattle.protocol.specs.FairLink.{Start, FairStart, Shared, Link, endOf, freshLink, MoveKind, anInput, aReRun, Move, takePacket, takeEvent, runAgain, countInput, Moves, noMove, move, Run, Idle}
-use Rattle.protocol.specs.FairRuns.{typesAs, entries, bothBond, countNamed, keysNamed, keys, RunEnds, RunsEnd, EveryFairRunEnds}
+use Rattle.protocol.specs.FairRuns.{typesAs, entries, bothBond, countNamed, keysNamed, keys, RunEnds, EveryFairRunEnds}
 use Rattle.protocol.proofs.Codes.{code-known}
-use Rattle.protocol.proofs.Exchange.{Over, start}
+use Rattle.protocol.proofs.Exchange.{start}
 use Rattle.protocol.proofs.Pairing.{pairing, Agreed}
 use Rattle.protocol.proofs.TerminalFollows.{terminal-follows}
 use Rattle.protocol.proofs.HeadFollows.{head-follows}
-use Rattle.protocol.proofs.FairSides.{sideOf}
-use Rattle.protocol.proofs.FairMoves.{Ok, Fewer, kept, not-refused-move, idle-none, idle-machine, Moving, terminalSide, headSide, AllOver, goes-on}
+use Rattle.protocol.proofs.FairMoves.{Ok, kept, not-refused-move, idle-none, idle-machine, Moving, terminalSide, headSide, AllOver, goes-on}
 
 -- ---- how many inputs at most
 
@@ -70,7 +69,8 @@ not-empty : {X : Type 0} (earlier later : List X) (x : X) → IsEmpty (earlier +
 not-empty [] later x h = h
 not-empty (y ∷ earlier) later x h = h
 
-still : (shared : Shared) (L : Link) → ((r : Role) → Idle (endOf r L)) → (k : MoveKind) (L₁ : Link) → Move shared L k L₁ → ⊥
+still : (shared : Shared) (L : Link) → ((r : Role) → Idle (endOf r L)) → (k : MoveKind) (L₁ : Link) →
+    Move shared L k L₁ → ⊥
 still shared L idle k L₁ (takePacket r p queue answers u q v f) = subst IsEmpty (sym (idle r .noneQueued) ∙ q) tt
 still shared L idle k L₁ (takeEvent r ε earlier later answers u q v f) =
     not-empty earlier later ε (subst IsEmpty (sym (idle r .noneDue) ∙ q) tt)
@@ -90,13 +90,18 @@ module _ (shared : Shared) (s : Start) where
   whole {L} d e n noMove h = (d, e, omega arith, subst (λ k. Ok shared s d e k L) (omega arith) h)
   whole {L} {L₁} d e n (move {L₁ = L₂} {k = k} {moves = moves} {inputs = inputs} x xs) h =
       let z = kept shared s L d e n h k L₂ x in
-      let y = whole (z .0) (z .1) (countInput k n) xs (z .3) in
-      (y .0, y .1, omega (arith, y .2, z .2), subst (λ m. Ok shared s (y .0) (y .1) m L₁) (count-more k n inputs) (y .3))
+      let y = whole (z .0) (z .1) (countInput k n) xs (z .3) in (
+        y .0,
+        y .1,
+        omega (arith, y .2, z .2),
+        subst (λ m. Ok shared s (y .0) (y .1) m L₁) (count-more k n inputs) (y .3),
+      )
 
   -- ---- the end of a run
 
   module _ (L : Link) (d e n : ℕ) (h : Ok shared s d e n L) (o : AllOver shared s h) where
-    agreed : Agreed shared s (L .terminal .machine) (terminalSide shared s h .state) (L .head .machine) (headSide shared s h .state)
+    agreed : Agreed shared s (L .terminal .machine) (terminalSide shared s h .state) (L .head .machine)
+        (headSide shared s h .state)
     agreed =
         subst₂ (λ x y. Agreed shared s x (terminalSide shared s h .state) y (headSide shared s h .state))
         (idle-machine shared s (L .terminal .machine) (o .machine) (L .terminal .openStep) (o .isIdle))
@@ -182,7 +187,8 @@ module _ (shared : Shared) (s : Start) where
   finishes (suc b) L d e n l h = go (finishes b) (goes-on shared s L d e n h)
     where
       go :
-          ((L : Link) (d e n : ℕ) → d + e ≤ b → Ok shared s d e n L → Finishes n L) → Moving shared s L ⊎ AllOver shared s h →
+          ((L : Link) (d e n : ℕ) → d + e ≤ b → Ok shared s d e n L → Finishes n L) → Moving shared s L
+          ⊎ AllOver shared s h →
           Finishes n L
       go rec (inr o) = here-finished L d e n h o
       go rec (inl m) =
@@ -199,7 +205,8 @@ module _ (shared : Shared) (s : Start) where
           terminalInputs = 0;
           headInputs = 0;
           total = refl;
-          inStep = start (pairing shared) (Agreed shared s) tt (terminal-follows shared s 0) (head-follows shared s 0 fair);
+          inStep = start (pairing shared) (Agreed shared s) tt (terminal-follows shared s 0)
+              (head-follows shared s 0 fair);
           terminalSound = record { queued = tt; opened = tt; hadBy = tt; oobOnce = refl };
           headSound = record { queued = (code-known command.PairingRequest, tt); opened = tt; hadBy = tt; oobOnce = refl };
           headFirst = λ h. h;
@@ -219,7 +226,8 @@ module _ (shared : Shared) (s : Start) where
         let none-left = goes-on shared s L (z .0) (z .1) (0 + inputs) (z .3) in
         go (z .0) (z .1) (z .3) none-left
       where
-        go : (d e : ℕ) (h : Ok shared s d e (0 + inputs) L) → Moving shared s L ⊎ AllOver shared s h → RunEnds (s .request) inputs L
+        go : (d e : ℕ) (h : Ok shared s d e (0 + inputs) L) → Moving shared s L ⊎ AllOver shared s h →
+            RunEnds (s .request) inputs L
         go d e h (inl m) = absurd (x .over (m .0) (m .1) (m .2))
         go d e h (inr o) = subst (λ k. RunEnds (s .request) k L) (omega arith) (run-ends L d e (0 + inputs) h o)
 

@@ -1,5 +1,5 @@
 -- The fair link as an exchange: each of its ends as a side, and what a step of an end does to both. Assumes nothing.
-use Prim.Native.Nat.{ℕ, _+_, _≤_}
+use Prim.Native.Nat.{ℕ, _+_}
 use mathlib.Core.Path.{_≡_, refl, sym, ap, _∙_, subst}
 use mathlib.Core.Bool.{Bool, true, false, cond, not, _&&_, _||_}
 use mathlib.Core.List.{List, [], _∷_, _++_, append-nil, append-assoc}
@@ -13,17 +13,14 @@ use Rattle.host.specs.declared.call.Call.the-variants as call
 use Rattle.machine.specs.declared.Input.the-variants as input
 use Rattle.machine.specs.declared.Machine.{Machine}
 use Rattle.machine.specs.declared.Role.{Role}
-use Rattle.machine.specs.declared.Role.the-variants.{Central, Peripheral}
-use Rattle.protocol.specs.declared.Outcome.{Outcome}
-use Rattle.protocol.specs.declared.Outcome.the-variants as outcome
 use Rattle.protocol.specs.Program.{Ending, ended, wanting, refusing, Played, play}
 use Rattle.protocol.specs.Ops.{replyAt, Program}
 use Rattle.protocol.specs.Step.{handleInput, playOf, isKnown, longest, stepped, step}
-use Rattle.protocol.specs.FairLink.{Start, Shared, FairAnswers, QueuedPacket, Due, passKey, oobData, encryptionOn, Given, aPacket, anEvent, inputOf, payloadOf, OpenStep, End, Link, endOf, ofAll, sentBy, hasListed, firstMakes, madeDueBy, madeDueByAll, machineAt, stepAt, FairHost, openAfter, hadOobAfter}
+use Rattle.protocol.specs.FairLink.{Start, Shared, FairAnswers, QueuedPacket, Due, passKey, oobData, encryptionOn, Given, aPacket, anEvent, inputOf, payloadOf, OpenStep, End, Link, ofAll, sentBy, hasListed, madeDueBy, madeDueByAll, machineAt, stepAt, FairHost, openAfter}
 use Rattle.protocol.specs.FairRuns.{responseIn, encryptionIn, NotRefused}
 use Rattle.protocol.proofs.Codes.{code-known}
 use Rattle.protocol.proofs.Programs.{along}
-use Rattle.protocol.proofs.Exchange.{Party, opener, replier, optional, Local, locally, note, noteAll, sendAll, Act, actAfter, Side, side}
+use Rattle.protocol.proofs.Exchange.{optional, System, Local, locally, noteAll, sendAll, Act, actAfter, Side, side}
 use Rattle.protocol.proofs.Pairing.{summary, listed, firstOf, pairing, Agreed}
 
 -- ---- what is kept of calls, with calls more
@@ -43,37 +40,55 @@ has-listed kind (b ∷ before) c =
 
 pub of-all-append : {X : Type 0} (f : Call → List X) (cs ds : List Call) → ofAll f (cs ++ ds) ≡ ofAll f cs ++ ofAll f ds
 of-all-append f [] ds = refl
-of-all-append f (c ∷ cs) ds = ap (λ x. f c ++ x) (of-all-append f cs ds) ∙ sym (append-assoc (f c) (ofAll f cs) (ofAll f ds))
+of-all-append f (c ∷ cs) ds = ap (λ x. f c ++ x) (of-all-append f cs ds)
+    ∙ sym (append-assoc (f c) (ofAll f cs) (ofAll f ds))
 
-of-all-last : {X : Type 0} (f : Call → List X) (cs : List Call) (c : Call) → ofAll f (cs ++ (c ∷ [])) ≡ ofAll f cs ++ f c
+of-all-last : {X : Type 0} (f : Call → List X) (cs : List Call) (c : Call) → ofAll f (cs ++ (c ∷ [])) ≡ ofAll f cs
+    ++ f c
 of-all-last f cs c = of-all-append f cs (c ∷ []) ∙ ap (λ x. ofAll f cs ++ x) (append-nil (f c))
 
 summary-listed : (before : List Call) (c : Call) → listed c (summary before) ≡ summary (before ++ (c ∷ []))
 summary-listed before c =
-    rw (has-listed 0x23 before c, has-listed 0x25 before c, has-listed 0x3A before c, of-all-last encryptionIn before c, of-all-last responseIn before c) refl
+    rw (
+      has-listed 0x23 before c,
+      has-listed 0x25 before c,
+      has-listed 0x3A before c,
+      of-all-last encryptionIn before c,
+      of-all-last responseIn before c,
+    ) refl
 
 -- ---- each end as a side
 
 module _ (shared : Shared) (s : Start) where
-  abbrev pub actOf : Machine → Option OpenStep → Act (pairing shared) (Agreed shared s)
+  abbrev pub Ends : System
+  Ends = pairing shared
+
+  abbrev pub Agrees : Machine → Local Ends → Machine → Local Ends → Type 0
+  Agrees = Agreed shared s
+
+  -- its open step or none, as the act of a side
+  abbrev pub actOf : Machine → Option OpenStep → Act Ends Agrees
   actOf m none = Act.idle m
   actOf m (some o) = Act.busy m (o .given) (o .answers)
 
   -- with the inputs that it got, and the other end's signals not used
-  abbrev pub sideOf : (inputs signs : ℕ) → End → Side (pairing shared) (Agreed shared s)
+  abbrev pub sideOf : (inputs signs : ℕ) → End → Side Ends Agrees
   sideOf inputs signs e =
-      side (pairing shared) (Agreed shared s) (actOf (e .machine) (e .openStep))
-      (locally (pairing shared) (summary (e .calls)) (e .due) inputs) (e .queue) signs
+      side Ends Agrees (actOf (e .machine) (e .openStep))
+      (locally Ends (summary (e .calls)) (e .due) inputs) (e .queue) signs
 
   pub note-all :
       (cs before : List Call) (due : List Due) (n : ℕ) →
-      noteAll (pairing shared) cs (locally (pairing shared) (summary before) due n)
-      ≡ locally (pairing shared) (summary (before ++ cs)) (due ++ madeDueByAll before cs) n
+      noteAll Ends cs (locally Ends (summary before) due n)
+      ≡ locally Ends (summary (before ++ cs)) (due ++ madeDueByAll before cs) n
   note-all [] before due n = rw (append-nil before, append-nil due) refl
   note-all (c ∷ cs) before due n =
-      ap (λ x. noteAll (pairing shared) cs (locally (pairing shared) x (due ++ madeDueBy before c) n)) (summary-listed before c)
+      ap (λ x. noteAll Ends cs (locally Ends x (due ++ madeDueBy before c) n)) (summary-listed before c)
       ∙ note-all cs (before ++ (c ∷ [])) (due ++ madeDueBy before c) n
-      ∙ rw (append-assoc before (c ∷ []) cs, append-assoc due (madeDueBy before c) (madeDueByAll (before ++ (c ∷ [])) cs)) refl
+      ∙ rw (
+        append-assoc before (c ∷ []) cs,
+        append-assoc due (madeDueBy before c) (madeDueByAll (before ++ (c ∷ [])) cs),
+      ) refl
 
   sent-first : (c : Call) → optional (firstOf (sentBy c)) ≡ sentBy c
   sent-first (call.SendPacket p) = refl
@@ -84,7 +99,7 @@ module _ (shared : Shared) (s : Start) where
   sent-first call.EnableBondedEncryption = refl
   sent-first (call.UpdateBondInformation b) = refl
 
-  pub send-all : (cs : List Call) (queue : List QueuedPacket) → sendAll (pairing shared) (Agreed shared s) cs queue ≡ queue ++ ofAll sentBy cs
+  pub send-all : (cs : List Call) (queue : List QueuedPacket) → sendAll Ends Agrees cs queue ≡ queue ++ ofAll sentBy cs
   send-all [] queue = sym (append-nil queue)
   send-all (c ∷ cs) queue =
       send-all cs (queue ++ optional (firstOf (sentBy c)))
@@ -144,8 +159,9 @@ module _ (shared : Shared) (s : Start) where
 
     pub act-after :
         KnownGiven g →
-        actOf (stepAt shared r L g answers .stepped .machine) (openAfter (stepAt shared r L g answers .stepped .outcome) g answers)
-        ≡ actAfter (pairing shared) (Agreed shared s) (machineAt r L) g answers (played .ending)
+        actOf (stepAt shared r L g answers .stepped .machine)
+        (openAfter (stepAt shared r L g answers .stepped .outcome) g answers)
+        ≡ actAfter Ends Agrees (machineAt r L) g answers (played .ending)
     unfolding stepAt step playOf
     act-after k =
         rw (given-known (machineAt r L) g k) (go (replicate longest 0) (played .calls) (played .place) (played .ending))
@@ -154,7 +170,7 @@ module _ (shared : Shared) (s : Start) where
             (list : List ℕ) (calls : List Call) (n : ℕ) (e : Ending Machine) →
             actOf (stepped (machineAt r L) list calls n e .stepped .machine)
             (openAfter (stepped (machineAt r L) list calls n e .stepped .outcome) g answers)
-            ≡ actAfter (pairing shared) (Agreed shared s) (machineAt r L) g answers e
+            ≡ actAfter Ends Agrees (machineAt r L) g answers e
         go list calls n (ended m) = refl
         go list calls n wanting = refl
         go list calls n refusing = refl
@@ -165,7 +181,8 @@ module _ (shared : Shared) (s : Start) where
     unfolding stepAt step playOf
     not-refused k host =
         rw (given-known (machineAt r L) g k)
-        (go (replicate longest 0) (played .calls) (played .place) (played .ending) (fair-ending answers program 0 (host .fair)))
+        (go (replicate longest 0) (played .calls) (played .place) (played .ending)
+        (fair-ending answers program 0 (host .fair)))
       where
         go :
             (list : List ℕ) (calls : List Call) (n : ℕ) (e : Ending Machine) → NotRefusing e →
@@ -192,7 +209,9 @@ oobs-append (passKey ∷ v) w = oobs-append v w
 oobs-append (oobData ∷ v) w = omega (arith, oobs-append v w)
 oobs-append (encryptionOn ∷ v) w = oobs-append v w
 
-oobs-made : (x y z h : Bool) → oobs (cond x (passKey ∷ []) [] ++ (cond (y && not h) (oobData ∷ []) [] ++ cond z (encryptionOn ∷ []) [])) + one h ≡ one (y || h)
+oobs-made : (x y z h : Bool) →
+    oobs (cond x (passKey ∷ []) [] ++ (cond (y && not h) (oobData ∷ []) [] ++ cond z (encryptionOn ∷ []) [])) + one h
+    ≡ one (y || h)
 oobs-made true true true true = refl
 oobs-made true true true false = refl
 oobs-made true true false true = refl
@@ -224,9 +243,15 @@ pub oobs-made-by-all :
 oobs-made-by-all [] before = rw (append-nil before) (omega arith)
 oobs-made-by-all (c ∷ cs) before =
     let after = before ++ (c ∷ []) in
-    subst (λ (l : List Call). oobs (madeDueByAll before (c ∷ cs)) + one (hasListed 0x25 before) ≡ one (hasListed 0x25 l))
+    subst (λ (l : List Call). oobs (madeDueByAll before (c ∷ cs)) + one (hasListed 0x25 before)
+    ≡ one (hasListed 0x25 l))
     (append-assoc before (c ∷ []) cs)
-    (omega (arith, oobs-append (madeDueBy before c) (madeDueByAll after cs), oobs-made-by before c, oobs-made-by-all cs after))
+    (omega (
+      arith,
+      oobs-append (madeDueBy before c) (madeDueByAll after cs),
+      oobs-made-by before c,
+      oobs-made-by-all cs after,
+    ))
 
 -- what is due and what was had are what was made due
 abbrev pub OobOnce : End → Type 0

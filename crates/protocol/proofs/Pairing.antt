@@ -160,8 +160,10 @@ keysOf both encryption identity = cond both (countNamed encryption + countNamed 
 
 keys-of-both :
     (request answer : PairingFeatures) (both : Bool) →
-    keysOf both (namesEncryptionKey (answer .«responder_key_distribution»)) (namesIdentityKey (answer .«responder_key_distribution»))
-    + keysOf both (namesEncryptionKey (answer .«initiator_key_distribution»)) (namesIdentityKey (answer .«initiator_key_distribution»))
+    keysOf both (namesEncryptionKey (answer .«responder_key_distribution»))
+    (namesIdentityKey (answer .«responder_key_distribution»))
+    + keysOf both (namesEncryptionKey (answer .«initiator_key_distribution»))
+    (namesIdentityKey (answer .«initiator_key_distribution»))
     ≡ cond both (keysNamed answer) 0
 keys-of-both request answer true = omega arith
 keys-of-both request answer false = refl
@@ -191,19 +193,20 @@ queued p = record { code = commandCode (packetCommand p); payload = packetBody p
 
 module _ (shared : Shared) (s : Start) where
   -- the goal: what the claim says of the end of a run, by what each end has to itself
-  pub record Agreed (m : Machine) (l : Local (pairing shared)) (m₁ : Machine) (l₁ : Local (pairing shared)) : Type 0 where
-    pub answer : PairingFeatures
-    pub answered : l₁ .log .responses ≡ answer ∷ []
-    pub counted :
-        l .inputs + l₁ .inputs ≡ 8 + entries (legacyMethod (s .request) answer) + 2 * keys (s .request) answer
-    pub encryption : Encryption
-    pub terminalEncrypts : l .log .encryptions ≡ encryption ∷ []
-    pub headEncrypts : l₁ .log .encryptions ≡ encryption ∷ []
-    pub terminalEnds : m .phase ≡ phase.Success
-    pub headEnds : HeadEnds (excepted (s .request) answer) m₁
-    pub sameBonds :
-        bothBond (s .request) answer ≡ true → namesEncryptionKey (answer .«responder_key_distribution») ≡ true →
-        SameBonds (negotiated (s .request) answer) m m₁
+  pub record Agreed (m : Machine) (l : Local (pairing shared)) (m₁ : Machine) (l₁ : Local (pairing shared)) : Type 0
+    where
+      pub answer : PairingFeatures
+      pub answered : l₁ .log .responses ≡ answer ∷ []
+      pub counted :
+          l .inputs + l₁ .inputs ≡ 8 + entries (legacyMethod (s .request) answer) + 2 * keys (s .request) answer
+      pub encryption : Encryption
+      pub terminalEncrypts : l .log .encryptions ≡ encryption ∷ []
+      pub headEncrypts : l₁ .log .encryptions ≡ encryption ∷ []
+      pub terminalEnds : m .phase ≡ phase.Success
+      pub headEnds : HeadEnds (excepted (s .request) answer) m₁
+      pub sameBonds :
+          bothBond (s .request) answer ≡ true → namesEncryptionKey (answer .«responder_key_distribution») ≡ true →
+          SameBonds (negotiated (s .request) answer) m m₁
 
   abbrev pub Exchange : Type 1
   Exchange = Protocol (pairing shared) Agreed
@@ -218,7 +221,8 @@ module _ (shared : Shared) (s : Start) where
   HeadFollows d g l p = Follows (pairing shared) Agreed d replier g l p
 
   -- an end's own state: what was listed, what is due, and the inputs that it got
-  abbrev pub having : (typing oob report : Bool) → List Encryption → List PairingFeatures → List Due → ℕ → Local (pairing shared)
+  abbrev pub having : (typing oob report : Bool) → List Encryption → List PairingFeatures → List Due → ℕ →
+      Local (pairing shared)
   having typing oob report es rs due n =
       record {
         log = record { typing = typing; oob = oob; report = report; encryptions = es; responses = rs };
@@ -284,14 +288,15 @@ module _ (shared : Shared) (s : Start) where
     Due? x = both ≡ true → namesEncryptionKey (answer .«responder_key_distribution») ≡ true → AreSent x
 
     -- how each end stands at last
-    pub record TerminalDone (e : Encryption) (x : Option SentKeys) (m : Machine) (l : Local (pairing shared)) : Type 0 where
-      pub encrypts : l .log .encryptions ≡ e ∷ []
-      pub inputs :
-          l .inputs ≡ 4 + (terminalEntries chosen + 2 * keysOf both
-          (namesEncryptionKey (answer .«responder_key_distribution»))
-          (namesIdentityKey (answer .«responder_key_distribution»)))
-      pub ends : m .phase ≡ phase.Success
-      pub stored : Stored x m
+    pub record TerminalDone (e : Encryption) (x : Option SentKeys) (m : Machine) (l : Local (pairing shared)) : Type 0
+      where
+        pub encrypts : l .log .encryptions ≡ e ∷ []
+        pub inputs :
+            l .inputs ≡ 4 + (terminalEntries chosen + 2 * keysOf both
+            (namesEncryptionKey (answer .«responder_key_distribution»))
+            (namesIdentityKey (answer .«responder_key_distribution»)))
+        pub ends : m .phase ≡ phase.Success
+        pub stored : Stored x m
 
     pub record HeadDone (e : Encryption) (x : Option SentKeys) (m : Machine) (l : Local (pairing shared)) : Type 0 where
       pub responds : l .log .responses ≡ answer ∷ []

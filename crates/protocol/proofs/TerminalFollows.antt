@@ -253,7 +253,8 @@ module _ (shared : Shared) (s : Start) (a : Answer s) where
         (ret (enters (phase.WaitingPairingRandom (confirmOf shared s a (srand .0))) (confirming mrand) unbonded))
     unfolding «handle_input» transition «handle_pairing_random» enableEncryption negotiatedKeySize enter
     takes-srand d n mrand srand c =
-        takes λ u. rw (word-in (srand .0 .0) (srand .1), confirm-value mrand (srand .0), same-refl, same-size) (quiet refl λ b.
+        takes λ u. rw (word-in (srand .0 .0) (srand .1), confirm-value mrand (srand .0), same-refl, same-size)
+        (quiet refl λ b.
         takes-report typing oob (encryptionOf shared s a mrand (srand .0)) d (suc n) b (omega arith))
 
     -- Sconfirm is answered by Mrand
