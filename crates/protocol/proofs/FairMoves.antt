@@ -56,7 +56,7 @@ module _ (shared : Shared) (s : Start) where
 
   abbrev KnownOpen : Option OpenStep → Type 0
   KnownOpen none = Unit {0}
-  KnownOpen (some o) = KnownGiven shared s (o .given)
+  KnownOpen (some o) = KnownGiven (o .given)
 
   -- an open step on OOB data has had it
   abbrev HadBy : Option OpenStep → Bool → Type 0
@@ -64,12 +64,12 @@ module _ (shared : Shared) (s : Start) where
   HadBy (some o) had = hadOobAfter (o .given) had ≡ had
 
   pub record Sound (e : End) : Type 0 where
-    pub queued : AllKnown shared s (e .queue)
+    pub queued : AllKnown (e .queue)
     pub opened : KnownOpen (e .openStep)
     pub hadBy : HadBy (e .openStep) (e .hadOob)
     pub oobOnce : OobOnce e
 
-  open-known : (o : Outcome) (g : Given) (answers : List ℕ) → KnownGiven shared s g → KnownOpen (openAfter o g answers)
+  open-known : (o : Outcome) (g : Given) (answers : List ℕ) → KnownGiven g → KnownOpen (openAfter o g answers)
   open-known outcome.Ended g answers k = tt
   open-known outcome.Wants g answers k = k
   open-known (outcome.Refused n) g answers k = tt
@@ -87,7 +87,7 @@ module _ (shared : Shared) (s : Start) where
   after-sound :
       (r : Role) (L : Link) (g : Given) (answers : List ℕ) (queue : List QueuedPacket) (due : List Due)
       (new : List Call) →
-      KnownGiven shared s g → AllKnown shared s queue →
+      KnownGiven g → AllKnown queue →
       oobs due + one (hadOobAfter g (endOf r L .hadOob)) ≡ one (hasListed 0x25 (endOf r L .calls)) →
       Sound (endAfter shared r L g answers queue due new)
   after-sound r L g answers queue due new k q o =
@@ -108,7 +108,7 @@ module _ (shared : Shared) (s : Start) where
   receives-sound : (new : List Call) (e : End) → Sound e → Sound (receives new e)
   receives-sound new e h =
       record {
-        queued = all-known shared s (e .queue) new (h .queued);
+        queued = all-known (e .queue) new (h .queued);
         opened = h .opened;
         hadBy = h .hadBy;
         oobOnce = h .oobOnce;
@@ -137,7 +137,7 @@ module _ (shared : Shared) (s : Start) where
 
     after-side :
         (g : Given) (answers : List ℕ) (queue : List QueuedPacket) (due : List Due) (new : List Call) (inputs n : ℕ) →
-        KnownGiven shared s g →
+        KnownGiven g →
         sideAfter Ends Agrees p (this .machine) g answers new
         (locally Ends (summary (this .calls)) due inputs) queue n
         ≡ sideOf shared s inputs n (endAfter shared (roleOf p) L g answers queue due new)
@@ -147,7 +147,7 @@ module _ (shared : Shared) (s : Start) where
     after :
         (g : Given) (answers : List ℕ) (queue : List QueuedPacket) (due : List Due) (new : List Call) (inputs n : ℕ)
         (b : Bool) →
-        KnownGiven shared s g →
+        KnownGiven g →
         Kept Ends Agrees p d e
         (sideAfter Ends Agrees p (this .machine) g answers new
         (locally Ends (summary (this .calls)) due inputs) queue n)
@@ -183,7 +183,7 @@ module _ (shared : Shared) (s : Start) where
     packet-step :
         (n : ℕ) (x : QueuedPacket) (queue : List QueuedPacket) (answers : List ℕ) → this .openStep ≡ none →
         this .queue ≡ x ∷ queue → reportDue (this .due) ≡ false → FairHost shared (roleOf p) L (aPacket x) answers →
-        KnownGiven shared s (aPacket x) → InStepThere n →
+        KnownGiven (aPacket x) → InStepThere n →
         After (aPacket x) answers queue (this .due) (callsAt shared (roleOf p) L (aPacket x) answers) (suc k) n n₂
     unfolding callsAt playOf
     packet-step n x queue answers o q u host known z =
@@ -220,7 +220,7 @@ module _ (shared : Shared) (s : Start) where
     again-step :
         (n : ℕ) (g : Given) (answers : List ℕ) (x : ℕ) (added : List ℕ) →
         this .openStep ≡ some (record { given = g; answers = answers }) →
-        FairHost shared (roleOf p) L g (answers ++ (x ∷ added)) → KnownGiven shared s g → InStepThere n →
+        FairHost shared (roleOf p) L g (answers ++ (x ∷ added)) → KnownGiven g → InStepThere n →
         After g (answers ++ (x ∷ added)) (this .queue) (this .due)
         (drop (length (callsAt shared (roleOf p) L g answers)) (callsAt shared (roleOf p) L g (answers ++ (x ∷ added))))
         k n n₂
@@ -265,7 +265,7 @@ module _ (shared : Shared) (s : Start) where
   abbrev signs : (terminalHad headHad : Bool) → ℕ
   signs terminalHad headHad = one (headHad && not terminalHad)
 
-  pub record Ok (d e inputs : ℕ) (L : Link) : Type 1 where
+  pub record LinkInStep (d e inputs : ℕ) (L : Link) : Type 1 where
     pub terminalInputs : ℕ
     pub headInputs : ℕ
     pub total : terminalInputs + headInputs ≡ inputs
@@ -279,9 +279,9 @@ module _ (shared : Shared) (s : Start) where
 
   -- fewer moves are left after it
   abbrev pub Fewer : (d e inputs : ℕ) → Link → Type 1
-  Fewer d e inputs L = (d₁ : ℕ) × (e₁ : ℕ) × (d₁ + e₁ < d + e) × Ok d₁ e₁ inputs L
+  Fewer d e inputs L = (d₁ : ℕ) × (e₁ : ℕ) × (d₁ + e₁ < d + e) × LinkInStep d₁ e₁ inputs L
 
-  module _ (L : Link) (d e n : ℕ) (h : Ok d e n L) where
+  module _ (L : Link) (d e n : ℕ) (h : LinkInStep d e n L) where
     abbrev signsNow : ℕ
     signsNow = signs (L .terminal .hadOob) (L .head .hadOob)
 
@@ -300,7 +300,7 @@ module _ (shared : Shared) (s : Start) where
           (k : ℕ) →
           After opener L (L .head) d e (h .terminalInputs) (h .headInputs) 0 g answers queue due new k
           (signs (hadOobAfter g (L .terminal .hadOob)) (L .head .hadOob)) 0 →
-          KnownGiven shared s g → AllKnown shared s queue →
+          KnownGiven g → AllKnown queue →
           oobs due + one (hadOobAfter g (L .terminal .hadOob)) ≡ one (hasListed 0x25 (L .terminal .calls)) →
           (hadOobAfter g (L .terminal .hadOob) ≡ true → L .head .hadOob ≡ true) →
           Fewer d e (k + h .headInputs) (linkAfter shared Central L g answers queue due new)
@@ -324,7 +324,7 @@ module _ (shared : Shared) (s : Start) where
           (k : ℕ) →
           After replier L (L .terminal) e d (h .headInputs) (h .terminalInputs) signsNow g answers queue due new k 0
           (signs (L .terminal .hadOob) (hadOobAfter g (L .head .hadOob))) →
-          KnownGiven shared s g → AllKnown shared s queue →
+          KnownGiven g → AllKnown queue →
           oobs due + one (hadOobAfter g (L .head .hadOob)) ≡ one (hasListed 0x25 (L .head .calls)) →
           (L .terminal .hadOob ≡ true → hadOobAfter g (L .head .hadOob) ≡ true) →
           Fewer d e (h .terminalInputs + k) (linkAfter shared Peripheral L g answers queue due new)
@@ -350,13 +350,13 @@ module _ (shared : Shared) (s : Start) where
     open-given :
         (x : End) (g : Given) (answers : List ℕ) → Sound x → x .openStep
         ≡ some (record { given = g; answers = answers }) →
-        KnownGiven shared s g
+        KnownGiven g
     open-given x g answers k o = subst KnownOpen o (k .opened)
 
     first-known :
         (x : End) (p : QueuedPacket) (queue : List QueuedPacket) → Sound x → x .queue ≡ p ∷ queue →
-        KnownGiven shared s (aPacket p) × AllKnown shared s queue
-    first-known x p queue k q = subst (AllKnown shared s) q (k .queued)
+        KnownGiven (aPacket p) × AllKnown queue
+    first-known x p queue k q = subst AllKnown q (k .queued)
 
     -- counted as the link counts
     recounted : (m₁ m₂ : ℕ) (L₁ : Link) → m₁ ≡ m₂ → Fewer d e m₁ L₁ → Fewer d e m₂ L₁
@@ -613,18 +613,18 @@ module _ (shared : Shared) (s : Start) where
       again-moves p L (here p L .openStep) refl (subst (OpenOf p L) (sym e) (host .0, host .1, w))
 
   -- both ends as sides, and that all is over there
-  abbrev pub terminalSide : {d e n : ℕ} {L : Link} → Ok d e n L → Side Ends Agrees
+  abbrev pub terminalSide : {d e n : ℕ} {L : Link} → LinkInStep d e n L → Side Ends Agrees
   terminalSide {L = L} h =
       sideOf shared s (h .terminalInputs) (signs (L .terminal .hadOob) (L .head .hadOob)) (L .terminal)
 
-  abbrev pub headSide : {d e n : ℕ} {L : Link} → Ok d e n L → Side Ends Agrees
+  abbrev pub headSide : {d e n : ℕ} {L : Link} → LinkInStep d e n L → Side Ends Agrees
   headSide {L = L} h = sideOf shared s (h .headInputs) 0 (L .head)
 
-  abbrev pub AllOver : {d e n : ℕ} {L : Link} → Ok d e n L → Type 0
+  abbrev pub AllOver : {d e n : ℕ} {L : Link} → LinkInStep d e n L → Type 0
   AllOver h = Over Ends Agrees (terminalSide h) (headSide h)
 
   -- some move is allowed, or all is over
-  pub goes-on : (L : Link) (d e n : ℕ) (h : Ok d e n L) → Moving L ⊎ AllOver h
+  pub goes-on : (L : Link) (d e n : ℕ) (h : LinkInStep d e n L) → Moving L ⊎ AllOver h
   goes-on L d e n h =
       go (progress Ends Agrees d e (terminalSide h) (headSide h) (h .inStep))
     where

@@ -23,7 +23,7 @@ use Rattle.protocol.proofs.Exchange.{start}
 use Rattle.protocol.proofs.Pairing.{pairing, Agreed}
 use Rattle.protocol.proofs.TerminalFollows.{terminal-follows}
 use Rattle.protocol.proofs.HeadFollows.{head-follows}
-use Rattle.protocol.proofs.FairMoves.{Ok, kept, not-refused-move, idle-none, idle-machine, Moving, terminalSide, headSide, AllOver, goes-on}
+use Rattle.protocol.proofs.FairMoves.{LinkInStep, kept, not-refused-move, idle-none, idle-machine, Moving, terminalSide, headSide, AllOver, goes-on}
 
 -- ---- how many inputs at most
 
@@ -85,21 +85,21 @@ module _ (shared : Shared) (s : Start) where
 
   -- every list of moves keeps the ends in step, and leaves so many less
   whole :
-      {L L₁ : Link} {moves inputs : ℕ} (d e n : ℕ) → Moves shared L moves inputs L₁ → Ok shared s d e n L →
-      (d₁ : ℕ) × (e₁ : ℕ) × (moves + (d₁ + e₁) ≤ d + e) × Ok shared s d₁ e₁ (n + inputs) L₁
-  whole {L} d e n noMove h = (d, e, omega arith, subst (λ k. Ok shared s d e k L) (omega arith) h)
+      {L L₁ : Link} {moves inputs : ℕ} (d e n : ℕ) → Moves shared L moves inputs L₁ → LinkInStep shared s d e n L →
+      (d₁ : ℕ) × (e₁ : ℕ) × (moves + (d₁ + e₁) ≤ d + e) × LinkInStep shared s d₁ e₁ (n + inputs) L₁
+  whole {L} d e n noMove h = (d, e, omega arith, subst (λ k. LinkInStep shared s d e k L) (omega arith) h)
   whole {L} {L₁} d e n (move {L₁ = L₂} {k = k} {moves = moves} {inputs = inputs} x xs) h =
       let z = kept shared s L d e n h k L₂ x in
       let y = whole (z .0) (z .1) (countInput k n) xs (z .3) in (
         y .0,
         y .1,
         omega (arith, y .2, z .2),
-        subst (λ m. Ok shared s (y .0) (y .1) m L₁) (count-more k n inputs) (y .3),
+        subst (λ m. LinkInStep shared s (y .0) (y .1) m L₁) (count-more k n inputs) (y .3),
       )
 
   -- ---- the end of a run
 
-  module _ (L : Link) (d e n : ℕ) (h : Ok shared s d e n L) (o : AllOver shared s h) where
+  module _ (L : Link) (d e n : ℕ) (h : LinkInStep shared s d e n L) (o : AllOver shared s h) where
     agreed : Agreed shared s (L .terminal .machine) (terminalSide shared s h .state) (L .head .machine)
         (headSide shared s h .state)
     agreed =
@@ -156,7 +156,7 @@ module _ (shared : Shared) (s : Start) where
       (moves : ℕ) × (inputs : ℕ) × (L₁ : Link) × Run shared L moves inputs L₁ × RunEnds (s .request) (n + inputs) L₁
       × (n + inputs ≤ 18)
 
-  here-finished : (L : Link) (d e n : ℕ) (h : Ok shared s d e n L) → AllOver shared s h → Finishes n L
+  here-finished : (L : Link) (d e n : ℕ) (h : LinkInStep shared s d e n L) → AllOver shared s h → Finishes n L
   here-finished L d e n h o =
       let same : n ≡ n + 0 = omega arith in (
         0,
@@ -178,7 +178,7 @@ module _ (shared : Shared) (s : Start) where
         subst (λ k. k ≤ 18) same (y .5),
       )
 
-  finishes : (b : ℕ) (L : Link) (d e n : ℕ) → d + e ≤ b → Ok shared s d e n L → Finishes n L
+  finishes : (b : ℕ) (L : Link) (d e n : ℕ) → d + e ≤ b → LinkInStep shared s d e n L → Finishes n L
   finishes zero L d e n l h = go (goes-on shared s L d e n h)
     where
       go : Moving shared s L ⊎ AllOver shared s h → Finishes n L
@@ -187,7 +187,7 @@ module _ (shared : Shared) (s : Start) where
   finishes (suc b) L d e n l h = go (finishes b) (goes-on shared s L d e n h)
     where
       go :
-          ((L : Link) (d e n : ℕ) → d + e ≤ b → Ok shared s d e n L → Finishes n L) → Moving shared s L
+          ((L : Link) (d e n : ℕ) → d + e ≤ b → LinkInStep shared s d e n L → Finishes n L) → Moving shared s L
           ⊎ AllOver shared s h →
           Finishes n L
       go rec (inr o) = here-finished L d e n h o
@@ -198,7 +198,7 @@ module _ (shared : Shared) (s : Start) where
   -- ---- from a fair start
 
   module _ (fair : FairStart s) where
-    fresh-ok : Ok shared s 25 31 0 (freshLink s)
+    fresh-ok : LinkInStep shared s 25 31 0 (freshLink s)
     unfolding freshLink
     fresh-ok =
         record {
@@ -214,7 +214,7 @@ module _ (shared : Shared) (s : Start) where
 
     module _ (moves inputs : ℕ) (L : Link) (x : Moves shared (freshLink s) moves inputs L) where
       in-step :
-          (d₁ : ℕ) × (e₁ : ℕ) × (moves + (d₁ + e₁) ≤ 25 + 31) × Ok shared s d₁ e₁ (0 + inputs) L
+          (d₁ : ℕ) × (e₁ : ℕ) × (moves + (d₁ + e₁) ≤ 25 + 31) × LinkInStep shared s d₁ e₁ (0 + inputs) L
       in-step = whole 25 31 0 x fresh-ok
 
       then-ends : Finishes (0 + inputs) L
@@ -226,7 +226,7 @@ module _ (shared : Shared) (s : Start) where
         let none-left = goes-on shared s L (z .0) (z .1) (0 + inputs) (z .3) in
         go (z .0) (z .1) (z .3) none-left
       where
-        go : (d e : ℕ) (h : Ok shared s d e (0 + inputs) L) → Moving shared s L ⊎ AllOver shared s h →
+        go : (d e : ℕ) (h : LinkInStep shared s d e (0 + inputs) L) → Moving shared s L ⊎ AllOver shared s h →
             RunEnds (s .request) inputs L
         go d e h (inl m) = absurd (x .over (m .0) (m .1) (m .2))
         go d e h (inr o) = subst (λ k. RunEnds (s .request) k L) (omega arith) (run-ends L d e (0 + inputs) h o)

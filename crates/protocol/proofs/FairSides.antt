@@ -57,6 +57,42 @@ summary-listed before c =
       of-all-last responseIn before c,
     ) refl
 
+-- a call sends at most one packet
+sent-first : (c : Call) → optional (firstOf (sentBy c)) ≡ sentBy c
+sent-first (call.SendPacket p) = refl
+sent-first (call.SendConnectionEvent e) = refl
+sent-first (call.Ask q) = refl
+sent-first (call.Draw d) = refl
+sent-first (call.EnableEncryption k l n) = refl
+sent-first call.EnableBondedEncryption = refl
+sent-first (call.UpdateBondInformation b) = refl
+
+-- ---- the codes on the link are those of commands
+
+abbrev pub KnownGiven : Given → Type 0
+KnownGiven (aPacket p) = isKnown (input.Command (p .code)) ≡ true
+KnownGiven (anEvent e) = Unit {0}
+
+abbrev pub AllKnown : List QueuedPacket → Type 0
+AllKnown [] = Unit {0}
+AllKnown (p ∷ queue) = KnownGiven (aPacket p) × AllKnown queue
+
+pub all-known : (queue : List QueuedPacket) (cs : List Call) → AllKnown queue → AllKnown (queue ++ ofAll sentBy cs)
+all-known (p ∷ queue) cs k = (k .0, all-known queue cs (k .1))
+all-known [] [] k = tt
+all-known [] (call.SendPacket p ∷ cs) k = (code-known (packetCommand p), all-known [] cs k)
+all-known [] (call.SendConnectionEvent e ∷ cs) k = all-known [] cs k
+all-known [] (call.Ask q ∷ cs) k = all-known [] cs k
+all-known [] (call.Draw d ∷ cs) k = all-known [] cs k
+all-known [] (call.EnableEncryption x l n ∷ cs) k = all-known [] cs k
+all-known [] (call.EnableBondedEncryption ∷ cs) k = all-known [] cs k
+all-known [] (call.UpdateBondInformation b ∷ cs) k = all-known [] cs k
+
+abbrev NotRefusing : Ending Machine → Type 0
+NotRefusing (ended m) = Unit {0}
+NotRefusing wanting = Unit {0}
+NotRefusing refusing = ⊥
+
 -- ---- each end as a side
 
 module _ (shared : Shared) (s : Start) where
@@ -90,15 +126,6 @@ module _ (shared : Shared) (s : Start) where
         append-assoc due (madeDueBy before c) (madeDueByAll (before ++ (c ∷ [])) cs),
       ) refl
 
-  sent-first : (c : Call) → optional (firstOf (sentBy c)) ≡ sentBy c
-  sent-first (call.SendPacket p) = refl
-  sent-first (call.SendConnectionEvent e) = refl
-  sent-first (call.Ask q) = refl
-  sent-first (call.Draw d) = refl
-  sent-first (call.EnableEncryption k l n) = refl
-  sent-first call.EnableBondedEncryption = refl
-  sent-first (call.UpdateBondInformation b) = refl
-
   pub send-all : (cs : List Call) (queue : List QueuedPacket) → sendAll Ends Agrees cs queue ≡ queue ++ ofAll sentBy cs
   send-all [] queue = sym (append-nil queue)
   send-all (c ∷ cs) queue =
@@ -106,39 +133,13 @@ module _ (shared : Shared) (s : Start) where
       ∙ ap (λ x. (queue ++ x) ++ ofAll sentBy cs) (sent-first c)
       ∙ append-assoc queue (sentBy c) (ofAll sentBy cs)
 
-  -- ---- the codes on the link are those of commands
-
-  abbrev pub KnownGiven : Given → Type 0
-  KnownGiven (aPacket p) = isKnown (input.Command (p .code)) ≡ true
-  KnownGiven (anEvent e) = Unit {0}
+  -- ---- a step of an end leaves the act that its program's ending says
 
   given-known : (m : Machine) (g : Given) → KnownGiven g → isKnown (inputOf shared m g) ≡ true
   given-known m (aPacket p) k = k
   given-known m (anEvent passKey) k = refl
   given-known m (anEvent oobData) k = refl
   given-known m (anEvent encryptionOn) k = refl
-
-  abbrev pub AllKnown : List QueuedPacket → Type 0
-  AllKnown [] = Unit {0}
-  AllKnown (p ∷ queue) = KnownGiven (aPacket p) × AllKnown queue
-
-  pub all-known : (queue : List QueuedPacket) (cs : List Call) → AllKnown queue → AllKnown (queue ++ ofAll sentBy cs)
-  all-known (p ∷ queue) cs k = (k .0, all-known queue cs (k .1))
-  all-known [] [] k = tt
-  all-known [] (call.SendPacket p ∷ cs) k = (code-known (packetCommand p), all-known [] cs k)
-  all-known [] (call.SendConnectionEvent e ∷ cs) k = all-known [] cs k
-  all-known [] (call.Ask q ∷ cs) k = all-known [] cs k
-  all-known [] (call.Draw d ∷ cs) k = all-known [] cs k
-  all-known [] (call.EnableEncryption x l n ∷ cs) k = all-known [] cs k
-  all-known [] (call.EnableBondedEncryption ∷ cs) k = all-known [] cs k
-  all-known [] (call.UpdateBondInformation b ∷ cs) k = all-known [] cs k
-
-  -- ---- a step of an end leaves the act that its program's ending says
-
-  abbrev NotRefusing : Ending Machine → Type 0
-  NotRefusing (ended m) = Unit {0}
-  NotRefusing wanting = Unit {0}
-  NotRefusing refusing = ⊥
 
   fair-ending :
       (answers : List ℕ) (p : Program Machine) (at : ℕ) → FairAnswers shared p answers at →
