@@ -1,6 +1,6 @@
--- Two ends that exchange packets over a link, each by programs of host calls. If both follow one protocol, the moves of the
--- link are bounded, and where none is left both ends stand where the protocol finishes. Nothing here knows who the ends
--- are or what they say. Assumes nothing.
+-- Two ends that exchange packets over a link, each by programs of host calls. If both follow one protocol, each kind of
+-- move keeps them in step and leaves less to do, and one of them can move until both stand where the protocol finishes.
+-- Nothing here knows who the ends are or what they say. Assumes nothing.
 use Prim.Native.Nat.{ℕ, zero, suc, _<_}
 use mathlib.Core.Path.{_≡_, refl, sym, ap, _∙_, subst, subst₂}
 use mathlib.Core.Bool.{Bool, true, false}
@@ -97,8 +97,8 @@ apart-back replier opener h k = h
 apart-back replier replier h k = k
 
 module _ (S : System) where
-  open System S using (Machine, Call, Reply, Octet, read, Packet, Event, Input, packet, event, step, Log, write, sent, raised)
-  open System S using (urgent, gated, signals, Fair, fairly, Host)
+  open System S using (Machine, Call, Reply, Octet, read, Packet, Event, Input, packet, event, step)
+  open System S using (Log, write, sent, raised, urgent, gated, signals, Fair, fairly, Host)
 
   abbrev pub Program : Type 0
   Program = Prog Call Reply Machine
@@ -126,8 +126,8 @@ module _ (S : System) where
   module _ (Goal : Machine → Local → Machine → Local → Type 0) where
     -- ---- protocols, and what it is for an end to follow one
 
-    -- a packet of one end, made from data of some type, and what comes then; a signal of one end, and then a packet of the
-    -- other; at last, what holds of each end, from which the goal follows
+    -- a packet of one end, made from data of some type, and what comes then; a signal of one end, and then a packet of
+    -- the other; at last, what holds of each end, from which the goal follows
     pub data Protocol : Type 1 where
       message : Party → (D : Type 0) → (D → Packet) → (D → Protocol) → Protocol
       signal : Party → (D : Type 0) → (D → Packet) → (D → Protocol) → Protocol
@@ -180,6 +180,11 @@ module _ (S : System) where
     abbrev pub Takes : (isGated isSignal : Bool) → Party → Protocol → (Protocol → Type 1) → Type 1
     Takes true b r g X = Behind r g X
     Takes false b r g X = Emits r (signalItem b) g X
+
+    gated-behind :
+        (r : Party) (ε : Event) (g : Protocol) (X : Protocol → Type 1) → gated r ε ≡ true →
+        Takes (gated r ε) (signals r ε) r g X → Behind r g X
+    gated-behind r ε g X u h = subst (λ b. Takes b (signals r ε) r g X) u h
 
     abbrev pub Unless : Bool → Type 1 → Type 1
     Unless true X = Unit {1}
@@ -676,7 +681,7 @@ module _ (S : System) where
               let l₁ = counted l (earlier ++ later) in
               let p = step r m (event ε) in
               let due = onward r (z .0) (z .1) {X₁ = λ g. Behind r g (λ g₁. Fits d r g₁ l₁ p)} (λ g h.
-              subst (λ x. Takes x (signals r ε) r g (λ g₁. Fits d r g₁ l₁ p)) u
+              gated-behind r ε g (λ g₁. Fits d r g₁ l₁ p) u
               (idle-event (Fits d r) r g l m (l .due) ε earlier later q h)) (z .4) in
               let used = use-signal r (λ g. Fits d r g l₁ p) There w n (z .0) (z .1) (z .2) due in
               closes H r d e m (event ε) s taken l₁ w n y false (used .0) host (used .1)
@@ -745,12 +750,11 @@ module _ (S : System) where
     no-packet r X l m ε p w (none ∷ to) from Y u k s = k
     no-packet r X l m ε p w (some p₁ ∷ to) from Y u k (inr h) = h .1
     no-packet r X l m ε p w (some p₁ ∷ to) from Y u k (inl h) =
-        go (h .0) (subst (λ b. Takes b (signals r ε) r (h .0) Next) u (h .2 .0)) (h .3)
+        go (h .0) (gated-behind r ε (h .0) (λ g. X g (counted l []) (step r m (event ε))) u (h .2 .0)) (h .3)
       where
-        Next : Protocol → Type 1
-        Next g = X g (counted l []) (step r m (event ε))
-
-        go : (g : Protocol) → Behind r g Next → Along (other r) (some p₁ ∷ to) g Y → ⊥
+        go :
+            (g : Protocol) → Behind r g (λ g₁. X g₁ (counted l []) (step r m (event ε))) →
+            Along (other r) (some p₁ ∷ to) g Y → ⊥
         go (message s D pk K) b a = never b
         go (signal s D pk K) b a = never a
         go (finish F j) b a = never b
@@ -808,13 +812,16 @@ module _ (S : System) where
 
     -- an end that rests is not the one whose turn it is, and has nothing due where the protocol finishes
     module _ (d : ℕ) (r : Party) (l : Local) (m : Machine) where
+      -- after an event
+      abbrev Next : Event → Protocol → Type 1
+      Next ε g = Fits d r g (counted l []) (step r m (event ε))
+
       rests-not-speaks :
           (D : Type 0) (pk : D → Packet) (K : D → Protocol) (v : List Event) → Waits r v →
           Idle (Fits d r) r (message r D pk K) l m v → ⊥
       rests-not-speaks D pk K [] u h = not-other r (h .0)
       rests-not-speaks D pk K (ε ∷ []) u h =
-          never (subst (λ b. Takes b (signals r ε) r (message r D pk K) (λ g. Fits d r g (counted l []) (step r m (event ε))))
-          u (h .0))
+          never (gated-behind r ε (message r D pk K) (Next ε) u (h .0))
       rests-not-speaks D pk K (ε ∷ (ε₁ ∷ v)) u h = never h
 
       rests-not-signals :
@@ -822,8 +829,7 @@ module _ (S : System) where
           Idle (Fits d r) r (signal r D pk K) l m v → ⊥
       rests-not-signals D pk K [] u h = never h
       rests-not-signals D pk K (ε ∷ []) u h =
-          not-other r (subst (λ b. Takes b (signals r ε) r (signal r D pk K) (λ g. Fits d r g (counted l []) (step r m (event ε))))
-          u (h .0) .0)
+          not-other r (gated-behind r ε (signal r D pk K) (Next ε) u (h .0) .0)
       rests-not-signals D pk K (ε ∷ (ε₁ ∷ v)) u h = never h
 
       rests-finished :
@@ -832,8 +838,7 @@ module _ (S : System) where
           (v : List Event) → Waits r v → Idle (Fits d r) r (finish F j) l m v → (v ≡ []) × F r m l
       rests-finished F j [] u h = (refl, h .0)
       rests-finished F j (ε ∷ []) u h =
-          never (subst (λ b. Takes b (signals r ε) r (finish F j) (λ g. Fits d r g (counted l []) (step r m (event ε))))
-          u (h .0))
+          never (gated-behind r ε (finish F j) (Next ε) u (h .0))
       rests-finished F j (ε ∷ (ε₁ ∷ v)) u h = never h
 
     -- what is left where no move is: nothing is queued, due or open, and the goal holds
@@ -917,7 +922,8 @@ module _ (S : System) where
 -- ---- the rules by which an end is shown to follow a protocol
 
 module _ {S : System} {Goal : S .Machine → Local S → S .Machine → Local S → Type 0} where
-  open System S using (Machine, Call, Reply, Packet, Event, packet, event, step, Log, sent, urgent, gated, signals, Fair, fairly)
+  open System S using (Machine, Call, Reply, Packet, Event, packet, event, step)
+  open System S using (Log, sent, urgent, gated, signals, Fair, fairly)
 
   -- a call that sends nothing
   pub quiet :

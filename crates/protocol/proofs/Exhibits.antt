@@ -180,7 +180,9 @@ full-answer : (first : Link) (L : Link) (more : List Call) (answer : PairingFeat
     responsesIn (first .head .calls) ≡ full ∷ [] → L .head .calls ≡ first .head .calls ++ more →
     responsesIn (L .head .calls) ≡ answer ∷ [] → answer ≡ full
 full-answer first L more answer q r e =
-    head-same (sym e ∙ ap responsesIn r ∙ of-all-append responseIn (first .head .calls) more ∙ ap (λ x. x ++ responsesIn more) q)
+    head-same
+    (sym e ∙ ap responsesIn r ∙ of-all-append responseIn (first .head .calls) more
+    ∙ ap (λ x. x ++ responsesIn more) q)
   where
     head-same : {x y : PairingFeatures} {l : List PairingFeatures} → x ∷ [] ≡ y ∷ l → x ≡ y
     head-same h = ap (λ l. headOr full l) h

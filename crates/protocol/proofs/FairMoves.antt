@@ -489,7 +489,8 @@ module _ (shared : Shared) (s : Start) where
         let known = open-given (L .terminal) g answers (h .terminalSound) o in
         let had : hadOobAfter g (L .terminal .hadOob) ≡ L .terminal .hadOob =
         subst (λ y. HadBy y (L .terminal .hadOob)) o (h .terminalSound .hadBy) in
-        let new = drop (length (callsAt shared Central L g answers)) (callsAt shared Central L g (answers ++ (x ∷ added))) in
+        let new = drop (length (callsAt shared Central L g answers))
+        (callsAt shared Central L g (answers ++ (x ∷ added))) in
         let z = again-step opener L (L .head) d e (h .terminalInputs) (h .headInputs) 0 signsNow g answers x added o f
         known
         (h .inStep) in

@@ -208,7 +208,8 @@ module _ (shared : Shared) (s : Start) where
           inStep = start (pairing shared) (Agreed shared s) tt (terminal-follows shared s 0)
               (head-follows shared s 0 fair);
           terminalSound = record { queued = tt; opened = tt; hadBy = tt; oobOnce = refl };
-          headSound = record { queued = (code-known command.PairingRequest, tt); opened = tt; hadBy = tt; oobOnce = refl };
+          headSound =
+              record { queued = (code-known command.PairingRequest, tt); opened = tt; hadBy = tt; oobOnce = refl };
           headFirst = λ h. h;
         }
 

@@ -10,8 +10,6 @@ use lib.ListN.{length}
 use Rattle.octets.specs.Octets.{octetsOf, wordOf}
 use Rattle.octets.specs.declared.Word128.{Word128}
 use Rattle.octets.proofs.Octets.{same-refl}
-use Rattle.crypto.specs.Crypto.{maskedOf}
-use Rattle.crypto.specs.declared.crypto.LongTermKey.{LongTermKey}
 use Rattle.crypto.specs.declared.crypto.Nonce.{Nonce}
 use Rattle.crypto.proofs.Bounds.{c1-back}
 use Rattle.util.specs.declared.util.PairingMethod.{PairingMethod}
@@ -54,7 +52,7 @@ use Rattle.protocol.proofs.Payloads.{some-word, word-in, features-in, i
 use Rattle.protocol.proofs.Payloads.{encryption-named, identity-named}
 use Rattle.protocol.proofs.FairReplies.{FairData}
 use Rattle.protocol.proofs.Pairing.{pairing, plus, headEntries, keysOf, Answer, SentKeys, HeadFollows, having}
-use Rattle.protocol.proofs.Pairing.{tkOf, chosen, both, size, preq, pres, confirmOf, Stored, Due?, HeadDone}
+use Rattle.protocol.proofs.Pairing.{tkOf, chosen, both, preq, pres, confirmOf, Keeps, Due?, HeadDone}
 use Rattle.protocol.proofs.Pairing.{over, identityKey, terminalEncryption, terminalKeys, headKeys, afterSrand}
 use Rattle.protocol.proofs.Pairing.{afterSconfirm, afterMconfirm, confirms, afterResponse, afterRequest}
 use Rattle.protocol.proofs.Pairing.{wholeExchange}
@@ -103,20 +101,6 @@ module _ (shared : Shared) (s : Start) (a : Answer s) where
   keysAwaited encryption =
       countNamed encryption + countNamed (namesIdentityKey (s .request .«initiator_key_distribution»))
 
-  -- a bond has the LTK, cut, EDIV and Rand that were sent, if they were
-  abbrev AreKept : Option SentKeys → LongTermKey → ℕ → ℕ → Type 0
-  AreKept none ltk ediv rand = Unit {0}
-  AreKept (some x) ltk ediv rand = (ltk ≡ maskedOf (size shared s a) (x .ltk)) × (ediv ≡ x .ediv) × (rand ≡ x .rand)
-
-  abbrev Keeps : Option SentKeys → BondInformation → Type 0
-  Keeps x b = AreKept x (b .ltk) (b .ediv) (b .rand)
-
-  stored-kept :
-      (x : Option SentKeys) (m : Machine) (b : BondInformation) →
-      m .«pairing_data» .«bond_information» ≡ option.Some b → Keeps x b → Stored shared s a x m
-  stored-kept none m b e k = tt
-  stored-kept (some x) m b e k = (b, e, k .0, k .1, k .2)
-
   -- the handler that sends all keys, from the identity key on, and from its beginning
   abbrev fromIdentity : PairingData → (named : Bool) → Handler Machine
   fromIdentity d named = do
@@ -138,7 +122,7 @@ module _ (shared : Shared) (s : Start) (a : Answer s) where
       module _ (x : Option SentKeys) (due : Due? shared s a x) where
         -- Success is entered, whichever address the peer has by now
         enters-success :
-            (d n : ℕ) (peer : Address) (b : BondInformation) → Keeps x b → n ≡ allInputs →
+            (d n : ℕ) (peer : Address) (b : BondInformation) → Keeps shared s a x b → n ≡ allInputs →
             HeadFollows shared s (plus 3 d) (over shared s a e x due) (encrypting [] n)
             (enter (enters phase.Success noConfirmData (withPeerAddress peer (headData (option.Some b)))))
         unfolding enter
@@ -154,7 +138,7 @@ module _ (shared : Shared) (s : Start) (a : Answer s) where
                   encrypts = refl;
                   inputs = all;
                   ends = rw ends;
-                  stored = stored-kept x m b refl k;
+                  stored = (b, refl, k);
                 }
 
             go : (bonds : Bool) →
@@ -164,7 +148,8 @@ module _ (shared : Shared) (s : Start) (a : Answer s) where
 
         -- the terminal's identity key is awaited, where it is named
         awaits-identity :
-            (d n : ℕ) (b : BondInformation) → Keeps x b → (named : Bool) → n + 2 * countNamed named ≡ allInputs →
+            (d n : ℕ) (b : BondInformation) → Keeps shared s a x b →
+            (named : Bool) → n + 2 * countNamed named ≡ allInputs →
             HeadFollows shared s (plus 5 d) (identityKey shared s a opener named (over shared s a e x due))
             (encrypting [] n) (bind (awaitIdentityOrSucceed (headData (option.Some b)) named) entered)
         unfolding awaitIdentityOrSucceed enter «handle_input» transition «handle_identity_information» withIrk
@@ -177,7 +162,8 @@ module _ (shared : Shared) (s : Start) (a : Answer s) where
 
         -- .. and before it the encryption key
         awaits-keys :
-            (d n : ℕ) (b : BondInformation) → Keeps x b → (named : Bool) → n + 2 * keysAwaited named ≡ allInputs →
+            (d n : ℕ) (b : BondInformation) → Keeps shared s a x b →
+            (named : Bool) → n + 2 * keysAwaited named ≡ allInputs →
             HeadFollows shared s (plus 7 d)
             (terminalEncryption shared s a named
             (identityKey shared s a opener (namesIdentityKey (s .request .«initiator_key_distribution»))
@@ -193,7 +179,7 @@ module _ (shared : Shared) (s : Start) (a : Answer s) where
 
         -- before them the head's identity key is sent, where it is named
         sends-identity :
-            (d n : ℕ) (b : BondInformation) → Keeps x b →
+            (d n : ℕ) (b : BondInformation) → Keeps shared s a x b →
             n + 2 * keysAwaited (namesEncryptionKey (s .request .«initiator_key_distribution»)) ≡ allInputs →
             (named : Bool) →
             HeadFollows shared s (plus 11 d) (identityKey shared s a replier named (terminalKeys shared s a e x due))
@@ -231,7 +217,7 @@ module _ (shared : Shared) (s : Start) (a : Answer s) where
           encrypts = refl;
           inputs = all;
           ends = rw (p, q) (waits-for-identity (headData (option.Some b)) b refl);
-          stored = tt;
+          stored = (b, refl, tt);
         })
     sends-none d n b due p all false q = enters-success (rw (p, q)) none due d n _ b tt all
 

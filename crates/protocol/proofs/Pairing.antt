@@ -272,12 +272,17 @@ module _ (shared : Shared) (s : Start) where
     encryptionOf mrand srand =
         record { key = maskedOf size (s1Of (tkOf chosen) srand mrand); level = securityLevel chosen }
 
-    -- a bond has the responder's keys, if they were sent
+    -- a bond has the responder's LTK, cut, EDIV and Rand, if they were sent
+    abbrev pub KeepsKeys : Option SentKeys → LongTermKey → (ediv rand : ℕ) → Type 0
+    KeepsKeys none ltk ediv rand = Unit {0}
+    KeepsKeys (some x) ltk ediv rand = (ltk ≡ maskedOf size (x .ltk)) × (ediv ≡ x .ediv) × (rand ≡ x .rand)
+
+    abbrev pub Keeps : Option SentKeys → BondInformation → Type 0
+    Keeps x b = KeepsKeys x (b .ltk) (b .ediv) (b .rand)
+
+    -- .. and a machine has such a bond
     abbrev pub Stored : Option SentKeys → Machine → Type 0
-    Stored none m = Unit {0}
-    Stored (some x) m =
-        (b : BondInformation) × (m .«pairing_data» .«bond_information» ≡ option.Some b)
-        × (b .ltk ≡ maskedOf size (x .ltk)) × (b .ediv ≡ x .ediv) × (b .rand ≡ x .rand)
+    Stored x m = (b : BondInformation) × (m .«pairing_data» .«bond_information» ≡ option.Some b) × Keeps x b
 
     abbrev pub AreSent : Option SentKeys → Type 0
     AreSent none = ⊥
@@ -322,10 +327,10 @@ module _ (shared : Shared) (s : Start) where
           terminalHas = t .1;
           headHas = u .1;
           whole = x .ltk;
-          cutAtTerminal = t .2;
-          cutAtHead = u .2;
-          sameEdiv = t .3 ∙ sym (u .3);
-          sameRand = t .4 ∙ sym (u .4);
+          cutAtTerminal = t .2 .0;
+          cutAtHead = u .2 .0;
+          sameEdiv = t .2 .1 ∙ sym (u .2 .1);
+          sameRand = t .2 .2 ∙ sym (u .2 .2);
         }
 
     pub agreed :

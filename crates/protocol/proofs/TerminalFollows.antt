@@ -4,12 +4,10 @@ use Prim.Native.Nat.{ℕ, suc, _+_, _*_}
 use mathlib.Core.Path.{_≡_, refl}
 use mathlib.Core.Bool.{Bool, true, false}
 use mathlib.Core.List.{[], _∷_}
-use mathlib.Core.Option.{Option, none, some}
+use mathlib.Core.Option.{Option, none}
 use native.Mathlib.Omega.{arith}
 use Rattle.octets.specs.declared.Word128.{Word128}
 use Rattle.octets.proofs.Octets.{same-refl}
-use Rattle.crypto.specs.Crypto.{maskedOf}
-use Rattle.crypto.specs.declared.crypto.LongTermKey.{LongTermKey}
 use Rattle.crypto.specs.declared.crypto.Nonce.{Nonce}
 use Rattle.crypto.proofs.Bounds.{c1-back}
 use Rattle.util.specs.declared.util.PairingMethod.{PairingMethod}
@@ -47,7 +45,7 @@ use Rattle.protocol.proofs.Payloads.{some-word, word-in, features-in, i
 use Rattle.protocol.proofs.Payloads.{smaller-swapped}
 use Rattle.protocol.proofs.Pairing.{pairing, plus, terminalEntries, keysOf, Answer, SentKeys, TerminalFollows}
 use Rattle.protocol.proofs.Pairing.{having, tkOf, chosen, both, size, preq, pres, confirmOf, encryptionOf}
-use Rattle.protocol.proofs.Pairing.{Stored, Due?, over, identityKey, terminalEncryption, terminalKeys, headKeys}
+use Rattle.protocol.proofs.Pairing.{Keeps, Due?, over, identityKey, terminalEncryption, terminalKeys, headKeys}
 use Rattle.protocol.proofs.Pairing.{afterSrand, afterMrand, afterMconfirm, confirms, afterResponse, afterRequest}
 
 -- ---- words
@@ -111,21 +109,6 @@ module _ (shared : Shared) (s : Start) (a : Answer s) where
   abbrev bonded : BondInformation → PairingData
   bonded b = answeredBy (s .headAddress) (option.Some b)
 
-  -- a bond has the head's keys, if they were sent
-  abbrev KeepsKeys : Option SentKeys → LongTermKey → (ediv rand : ℕ) → Type 0
-  KeepsKeys none ltk ediv rand = Unit {0}
-  KeepsKeys (some x) ltk ediv rand = (ltk ≡ maskedOf (size shared s a) (x .ltk)) × (ediv ≡ x .ediv) × (rand ≡ x .rand)
-
-  abbrev Keeps : Option SentKeys → BondInformation → Type 0
-  Keeps x b = KeepsKeys x (b .ltk) (b .ediv) (b .rand)
-
-  -- .. and then a machine with this bond has them stored, as the protocol says it
-  kept-stored :
-      (x : Option SentKeys) (m : Machine) (b : BondInformation) →
-      m .«pairing_data» .«bond_information» ≡ option.Some b → Keeps x b → Stored shared s a x m
-  kept-stored none m b e k = tt
-  kept-stored (some x) m b e k = (b, e, k .0, k .1, k .2)
-
   -- the key size, as the terminal computes it
   same-size :
       smaller (a .features .«maximum_encryption_key_size») (s .request .«maximum_encryption_key_size») ≡ size shared s a
@@ -139,7 +122,7 @@ module _ (shared : Shared) (s : Start) (a : Answer s) where
     -- .. and no input to come
     module _
         (x : Option SentKeys) (due : Due? shared s a x) (n : ℕ) (all : n ≡ allInputs)
-        (peer : Address) (b : BondInformation) (k : Keeps x b) where
+        (peer : Address) (b : BondInformation) (k : Keeps shared s a x b) where
       abbrev atLast : PairingData
       atLast = answeredBy peer (option.Some b)
 
@@ -149,7 +132,7 @@ module _ (shared : Shared) (s : Start) (a : Answer s) where
       -- all is done
       stays : (d : ℕ) → TerminalFollows shared s (plus 1 d) (over shared s a e x due) (encrypted n) (ret success)
       stays d =
-          finished (record { encrypts = refl; inputs = all; ends = refl; stored = kept-stored x success b refl k })
+          finished (record { encrypts = refl; inputs = all; ends = refl; stored = (b, refl, k) })
 
       -- Success is entered
       succeeds : (d : ℕ) → TerminalFollows shared s (plus 3 d) (over shared s a e x due) (encrypted n) (enter success)
@@ -193,7 +176,7 @@ module _ (shared : Shared) (s : Start) (a : Answer s) where
     -- the head's identity key is taken before them, where it is named
     takes-identity :
         (d n : ℕ) (x : Option SentKeys) (due : Due? shared s a x) (b : BondInformation) →
-        both shared s a ≡ true → Keeps x b → (identity : Bool) → n + 2 * countNamed identity ≡ allInputs →
+        both shared s a ≡ true → Keeps shared s a x b → (identity : Bool) → n + 2 * countNamed identity ≡ allInputs →
         TerminalFollows shared s (plus 14 d) (identityKey shared s a replier identity (terminalKeys shared s a e x due))
         (encrypted n) (bind (awaitIdentityOrSend (bonded b) identity) entered)
     unfolding awaitIdentityOrSend enter «handle_input» transition «handle_identity_information» withIrk
