@@ -76,10 +76,6 @@ itself : (r : Party) → Is r r
 itself opener = tt
 itself replier = tt
 
-not-other : (r : Party) → Is (other r) r → ⊥
-not-other opener h = h
-not-other replier h = h
-
 other-other : (r : Party) → other (other r) ≡ r
 other-other opener = refl
 other-other replier = refl
@@ -89,6 +85,9 @@ apart opener opener h k = k
 apart opener replier h k = h
 apart replier opener h k = h
 apart replier replier h k = k
+
+not-other : (r : Party) → Is (other r) r → ⊥
+not-other r h = apart r r (itself r) h
 
 apart-back : (r s : Party) → Is r s → Is r (other s) → ⊥
 apart-back opener opener h k = k
@@ -228,14 +227,14 @@ module _ (S : System) where
       pub fair : (p : Program) (s : List Octet) → Host p s → FairOf s p 0
 
     -- a program on fair answers ends, or wants
-    stops :
-        (s : List Octet) (p : Program) (at : ℕ) → FairOf s p at →
+    abbrev Stopped : List Octet → Program → ℕ → Type 0
+    Stopped s p at =
         ((m : Machine) × (play read s p at .ending ≡ ended m) × (rest read s p at ≡ ret m))
         ⊎ ((c : Call) × (k : Reply c → Program) × (play read s p at .ending ≡ wanting) × (rest read s p at ≡ ask c k))
+
+    stops : (s : List Octet) (p : Program) (at : ℕ) → FairOf s p at → Stopped s p at
     stops s =
-        along read s (λ p at. FairOf s p at →
-        ((m : Machine) × (play read s p at .ending ≡ ended m) × (rest read s p at ≡ ret m))
-        ⊎ ((c : Call) × (k : Reply c → Program) × (play read s p at .ending ≡ wanting) × (rest read s p at ≡ ask c k)))
+        along read s (λ p at. FairOf s p at → Stopped s p at)
         (λ m at f. inl (m, refl, refl))
         (λ c k at e f. inr (c, k, rw e refl, rw e refl))
         (λ c k at e f. absurd (rw e at f))
@@ -552,11 +551,14 @@ module _ (S : System) where
         Host (step r m i) s × (play read s (step r m i) 0 .ending ≡ wanting)
         × Stands d r g l (rest read s (step r m i) 0)
 
+    abbrev Standing : ℕ → Party → Side → Protocol → Type 1
+    Standing d r x g = Holds d r g (x .state) (x .act)
+
     -- both ends, in step: with fewer than d and e moves of their own to go
     abbrev pub InStep : Party → (d e : ℕ) → (x y : Side) → Type 1
     InStep r d e x y =
         (to : List Item) × (from : List Item) × Held to (x .queue) (x .signs) × Held from (y .queue) (y .signs)
-        × Sync r to from (λ g. Holds d r g (x .state) (x .act)) (λ g. Holds e (other r) g (y .state) (y .act))
+        × Sync r to from (Standing d r x) (Standing e (other r) y)
 
     pub in-step-turned : (r : Party) (d e : ℕ) (x y : Side) → InStep r d e x y → InStep (other r) e d y x
     in-step-turned opener d e x y z = (z .1, z .0, z .3, z .2, turn opener (z .0) (z .1) _ _ (z .4))
@@ -564,41 +566,13 @@ module _ (S : System) where
 
     holds-after :
         (d : ℕ) (r : Party) (g : Protocol) (l : Local) (m : Machine) (i : Input) (s : List Octet) →
-        Host (step r m i) s →
-        ((m₁ : Machine) × (play read s (step r m i) 0 .ending ≡ ended m₁) × (rest read s (step r m i) 0 ≡ ret m₁))
-        ⊎ ((c : Call) × (k : Reply c → Program) × (play read s (step r m i) 0 .ending ≡ wanting)
-        × (rest read s (step r m i) 0 ≡ ask c k)) →
+        Host (step r m i) s → Stopped s (step r m i) 0 →
         Stands d r g l (rest read s (step r m i) 0) →
         Holds d r g l (actAfter m i s (play read s (step r m i) 0 .ending))
     holds-after d r g l m i s host (inl z) h =
         subst (λ e. Holds d r g l (actAfter m i s e)) (sym (z .1)) (subst (λ p. Stands d r g l p) (z .2) h)
     holds-after d r g l m i s host (inr z) h =
         subst (λ e. Holds d r g l (actAfter m i s e)) (sym (z .2)) (host, z .2, h)
-
-    -- the end of a move of r, by what its program comes to
-    closes :
-        Hosts → (r : Party) (d e : ℕ) (m : Machine) (i : Input) (s : List Octet) (cs : List Call) (l : Local)
-        (w : List Packet) (n : ℕ) (y : Side) (b : Bool) (to : List Item) →
-        Host (step r m i) s → Held to w n →
-        Comes d r (rest read s (step r m i) 0) cs l to (y .queue) (plusOne b (y .signs))
-        (λ g. Holds e (other r) g (y .state) (y .act)) →
-        (d₁ : ℕ) × (d₁ < d)
-        × InStep r d₁ e (side (actAfter m i s (play read s (step r m i) 0 .ending)) (noteAll cs l) w n)
-        (receives cs b y)
-    closes H r d e m i s cs l w n y b to host held z =
-        let stop = stops s (step r m i) 0 (H .fair (step r m i) s host) in (
-          z .0,
-          z .1,
-          (
-            to,
-            z .2,
-            held,
-            z .3,
-            onward r to (z .2) (λ g h. holds-after (z .0) r g (noteAll cs l) m i s host stop h) (z .4),
-          ),
-        )
-
-    -- ---- each kind of move keeps the ends in step, and leaves the end that moved less to do
 
     -- the calls of a step
     abbrev pub callsOf : Party → Machine → Input → List Octet → List Call
@@ -610,6 +584,22 @@ module _ (S : System) where
 
     abbrev pub Kept : Party → (d e : ℕ) → (x y : Side) → Type 1
     Kept r d e x y = (d₁ : ℕ) × (d₁ < d) × InStep r d₁ e x y
+
+    -- the end of a move of r, by what its program comes to
+    closes :
+        Hosts → (r : Party) (d e : ℕ) (m : Machine) (i : Input) (s : List Octet) (cs : List Call) (l : Local)
+        (w : List Packet) (n : ℕ) (y : Side) (b : Bool) (to : List Item) →
+        Host (step r m i) s → Held to w n →
+        Comes d r (rest read s (step r m i) 0) cs l to (y .queue) (plusOne b (y .signs)) (Standing e (other r) y) →
+        Kept r d e (sideAfter r m i s cs l w n) (receives cs b y)
+    closes H r d e m i s cs l w n y b to host held z =
+        let stop = stops s (step r m i) 0 (H .fair (step r m i) s host) in
+        let after = sideAfter r m i s cs l w n in
+        let stands = onward r to (z .2) {X₁ = Standing (z .0) r after}
+        (λ g h. holds-after (z .0) r g (noteAll cs l) m i s host stop h) (z .4) in
+        (z .0, z .1, (to, z .2, held, z .3, stands))
+
+    -- ---- each kind of move keeps the ends in step, and leaves the end that moved less to do
 
     idle-packets :
         (X : Protocol → Local → Program → Type 1) (r : Party) (g : Protocol) (l : Local) (m : Machine)
@@ -632,9 +622,8 @@ module _ (S : System) where
 
     module _ (H : Hosts) (r : Party) (d e : ℕ) (m : Machine) (l : Local) (w : List Packet) (s : List Octet) (y : Side)
       where
-        -- how the other end stands
         abbrev There : Protocol → Type 1
-        There g = Holds e (other r) g (y .state) (y .act)
+        There = Standing e (other r) y
 
         -- the oldest packet
         pub packet-kept :
@@ -806,7 +795,7 @@ module _ (S : System) where
 
     can-or-rests :
         (r : Party) (d : ℕ) (x : Side) (to from : List Item) (Y : Protocol → Type 1) → Held to (x .queue) (x .signs) →
-        Sync r to from (λ g. Holds d r g (x .state) (x .act)) Y → Can r x ⊎ Rests r x
+        Sync r to from (Standing d r x) Y → Can r x ⊎ Rests r x
     can-or-rests r d x to from Y held h =
         moves r d (x .act) (x .state .log) (x .state .due) (x .state .inputs) (x .queue) (x .signs) to from Y held h
 
@@ -880,11 +869,9 @@ module _ (S : System) where
     -- the theorem: of two ends in step, one can move, or all is over
     pub progress : (d e : ℕ) (x y : Side) → InStep opener d e x y → (Can opener x ⊎ Can replier y) ⊎ Over x y
     progress d e x y z =
-        go
-        (can-or-rests opener d x (z .0) (z .1) (λ g. Holds e replier g (y .state) (y .act)) (z .2) (z .4))
-        (can-or-rests replier e y (z .1) (z .0) (λ g. Holds d opener g (x .state) (x .act)) (z .3)
-        (turn opener (z .0) (z .1) (λ g. Holds d opener g (x .state) (x .act))
-        (λ g. Holds e replier g (y .state) (y .act)) (z .4)))
+        go (can-or-rests opener d x (z .0) (z .1) (Standing e replier y) (z .2) (z .4))
+        (can-or-rests replier e y (z .1) (z .0) (Standing d opener x) (z .3)
+        (turn opener (z .0) (z .1) (Standing d opener x) (Standing e replier y) (z .4)))
       where
         go : Can opener x ⊎ Rests opener x → Can replier y ⊎ Rests replier y → (Can opener x ⊎ Can replier y) ⊎ Over x y
         go (inl c) b = inl (inl c)
@@ -892,9 +879,7 @@ module _ (S : System) where
         go (inr a) (inr b) =
             let none-to = held-nothing (z .0) (subst₂ (Held (z .0)) (a .noPacket) (a .noSign) (z .2)) in
             let none-from = held-nothing (z .1) (subst₂ (Held (z .1)) (b .noPacket) (b .noSign) (z .3)) in
-            let at = meet (z .0) (z .1) (λ g. Holds d opener g (x .state) (x .act))
-            (λ g. Holds e replier g (y .state) (y .act))
-            none-to none-from (z .4) in
+            let at = meet (z .0) (z .1) (Standing d opener x) (Standing e replier y) none-to none-from (z .4) in
             let end = over d e (at .0) (x .state) (y .state) (a .machine) (b .machine) (a .waits) (b .waits)
             (subst (λ c. Holds d opener (at .0) (x .state) c) (a .isIdle) (at .1))
             (subst (λ c. Holds e replier (at .0) (y .state) c) (b .isIdle) (at .2)) in
