@@ -23,8 +23,9 @@ use Rattle.protocol.proofs.Programs.{along}
 use Rattle.protocol.proofs.Replies.{reads}
 use Rattle.protocol.proofs.Allowed.{no-answers}
 use Rattle.protocol.proofs.FairReplies.{fair-reply, more-answers}
-use Rattle.protocol.proofs.Exchange.{Party, opener, replier, plusOne, System, Local, locally, FairOf, Hosts, Act, Side, side, InStep, in-step-turned, sideAfter, Kept, packet-kept, event-kept, behind-kept, again-kept, Can, packet-can, event-can, behind-can, again-can, Over, progress}
-use Rattle.protocol.proofs.Exchange.{receives as received}
+use Rattle.protocol.proofs.Exchange.{Party, opener, replier, plusOne, System, Local, locally, FairOf, Hosts}
+use Rattle.protocol.proofs.InStep.{Act, Side, side, InStep, in-step-turned, sideAfter, Kept, packet-kept, event-kept, behind-kept, again-kept, Can, packet-can, event-can, behind-can, again-can, Over, progress}
+use Rattle.protocol.proofs.InStep.{receives as received}
 use Rattle.protocol.proofs.Pairing.{roleOf, summary, oobOf, oobBefore, pairing, Agreed}
 use Rattle.protocol.proofs.FairSides.{actOf, sideOf, note-all, send-all, KnownGiven, AllKnown, all-known, act-after, not-refused, one, oobs, oobs-append, oobs-made-by-all, OobOnce}
 

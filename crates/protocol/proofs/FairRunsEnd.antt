@@ -19,7 +19,7 @@ use Rattle.protocol.specs.Handlers.{namesEncryptionKey, namesIdentityKey
 use Rattle.protocol.specs.FairLink.{Start, FairStart, Shared, Link, endOf, freshLink, MoveKind, anInput, aReRun, Move, takePacket, takeEvent, runAgain, countInput, Moves, noMove, move, Run, Idle}
 use Rattle.protocol.specs.FairRuns.{typesAs, entries, bothBond, countNamed, keysNamed, keys, RunEnds, EveryFairRunEnds}
 use Rattle.protocol.proofs.Codes.{code-known}
-use Rattle.protocol.proofs.Exchange.{start}
+use Rattle.protocol.proofs.InStep.{start}
 use Rattle.protocol.proofs.Pairing.{pairing, Agreed}
 use Rattle.protocol.proofs.TerminalFollows.{terminal-follows}
 use Rattle.protocol.proofs.HeadFollows.{head-follows}

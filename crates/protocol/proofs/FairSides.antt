@@ -20,7 +20,8 @@ use Rattle.protocol.specs.FairLink.{Start, Shared, FairAnswers, QueuedPa
 use Rattle.protocol.specs.FairRuns.{responseIn, encryptionIn, NotRefused}
 use Rattle.protocol.proofs.Codes.{code-known}
 use Rattle.protocol.proofs.Programs.{along}
-use Rattle.protocol.proofs.Exchange.{optional, System, Local, locally, noteAll, sendAll, Act, actAfter, Side, side}
+use Rattle.protocol.proofs.Exchange.{optional, System, Local, locally, noteAll}
+use Rattle.protocol.proofs.InStep.{sendAll, Act, actAfter, Side, side}
 use Rattle.protocol.proofs.Pairing.{summary, listed, firstOf, pairing, Agreed}
 
 -- ---- what is kept of calls, with calls more

@@ -14,6 +14,7 @@ pub mod Leaving
 pub mod Example
 pub mod FirstMove
 pub mod Exchange
+pub mod InStep
 pub mod Payloads
 pub mod FairReplies
 pub mod Pairing
