@@ -124,6 +124,102 @@ module _ (S : System) where
   abbrev pub counted : Local → List Event → Local
   counted l v = record { log = l .log; due = v; inputs = suc (l .inputs) }
 
+  -- what is on its way to an end
+  pub data Item : Type 0 where
+    aPacket : Packet → Item
+    aSignal : Item
+
+  abbrev pub sentItem : Option Packet → Option Item
+  sentItem none = none
+  sentItem (some p) = some (aPacket p)
+
+  abbrev pub signalItem : Bool → Option Item
+  signalItem true = some aSignal
+  signalItem false = none
+
+  -- ---- what is on its way is what the link holds, in an order that the link forgets
+
+  abbrev pub Held : List Item → List Packet → (signs : ℕ) → Type 0
+  Held [] [] zero = Unit {0}
+  Held [] [] (suc n) = ⊥
+  Held [] (p ∷ w) n = ⊥
+  Held (aPacket p ∷ q) [] n = ⊥
+  Held (aPacket p ∷ q) (p₁ ∷ w) n = (p ≡ p₁) × Held q w n
+  Held (aSignal ∷ q) w zero = ⊥
+  Held (aSignal ∷ q) w (suc n) = Held q w n
+
+  pub held-sent :
+      (o : Option Packet) (q : List Item) (w : List Packet) (n : ℕ) → Held q w n →
+      Held (q ++ optional (sentItem o)) (w ++ optional o) n
+  held-sent none [] [] zero h = h
+  held-sent (some p) [] [] zero h = (refl, h)
+  held-sent o [] [] (suc n) h = absurd h
+  held-sent o [] (p ∷ w) n h = absurd h
+  held-sent o (aPacket p ∷ q) [] n h = absurd h
+  held-sent o (aPacket p ∷ q) (p₁ ∷ w) n h = (h .0, held-sent o q w n (h .1))
+  held-sent o (aSignal ∷ q) w zero h = absurd h
+  held-sent o (aSignal ∷ q) w (suc n) h = held-sent o q w n h
+
+  pub held-signal :
+      (b : Bool) (q : List Item) (w : List Packet) (n : ℕ) → Held q w n →
+      Held (q ++ optional (signalItem b)) w (plusOne b n)
+  held-signal true [] [] zero h = h
+  held-signal false [] [] zero h = h
+  held-signal b [] [] (suc n) h = absurd h
+  held-signal b [] (p ∷ w) n h = absurd h
+  held-signal b (aPacket p ∷ q) [] n h = absurd h
+  held-signal b (aPacket p ∷ q) (p₁ ∷ w) n h = (h .0, held-signal b q w n (h .1))
+  held-signal b (aSignal ∷ q) w zero h = absurd h
+  held-signal true (aSignal ∷ q) w (suc n) h = held-signal true q w n h
+  held-signal false (aSignal ∷ q) w (suc n) h = held-signal false q w n h
+
+  pub held-nothing : (q : List Item) → Held q [] 0 → Empty q
+  held-nothing [] h = tt
+  held-nothing (aPacket p ∷ q) h = h
+  held-nothing (aSignal ∷ q) h = h
+
+  -- ---- a program on fair answers
+
+  -- each answer that is read is a fair reply
+  abbrev pub FairOn : (c : Call) → (Reply c → ℕ → Type 0) → Taken (Reply c) → Type 0
+  FairOn c F (got x n) = ((y : Fair c) × (x ≡ fairly c y)) × F x n
+  FairOn c F wants = Unit {0}
+  FairOn c F refused = ⊥
+
+  abbrev pub FairOf : List Octet → Program → ℕ → Type 0
+  FairOf s (ret m) at = Unit {0}
+  FairOf s (ask c k) at = FairOn c (λ x n. FairOf s (k x) n) (read c s at)
+
+  -- what is asked of the reading of answers, and of hosts: a fair host's answers are fair
+  pub record Hosts : Type 0 where
+    pub reads : Reads read
+    pub fair : (p : Program) (s : List Octet) → Host p s → FairOf s p 0
+
+  -- a program on fair answers ends, or wants
+  abbrev pub Stopped : List Octet → Program → ℕ → Type 0
+  Stopped s p at =
+      ((m : Machine) × (play read s p at .ending ≡ ended m) × (rest read s p at ≡ ret m))
+      ⊎ ((c : Call) × (k : Reply c → Program) × (play read s p at .ending ≡ wanting) × (rest read s p at ≡ ask c k))
+
+  pub stops : (s : List Octet) (p : Program) (at : ℕ) → FairOf s p at → Stopped s p at
+  stops s =
+      along read s (λ p at. FairOf s p at → Stopped s p at)
+      (λ m at f. inl (m, refl, refl))
+      (λ c k at e f. inr (c, k, rw e refl, rw e refl))
+      (λ c k at e f. absurd (rw e at f))
+      (λ c k at x n e rec f. rw e (rec ((rw e at f) .1)))
+
+  -- what is left of it is fair on more answers
+  pub fair-again :
+      Reads read → (s w : List Octet) (p : Program) (at : ℕ) → FairOf (s ++ w) p at →
+      FairOf (s ++ w) (rest read s p at) (play read s p at .place)
+  fair-again law s w =
+      along read s (λ p at. FairOf (s ++ w) p at → FairOf (s ++ w) (rest read s p at) (play read s p at .place))
+      (λ m at f. tt)
+      (λ c k at e f. rw e f)
+      (λ c k at e f. rw e f)
+      (λ c k at x n e rec f. rw e (rec ((rw (law .keeps c s w at x n e) at f) .1)))
+
   module _ (Goal : Machine → Local → Machine → Local → Type 0) where
     -- ---- protocols, and what it is for an end to follow one
 
@@ -137,27 +233,15 @@ module _ (S : System) where
           ((m : Machine) (l : Local) (m₁ : Machine) (l₁ : Local) → F opener m l → F replier m₁ l₁ → Goal m l m₁ l₁) →
           Protocol
 
-    -- what is on its way to an end: a packet, or none, which is a signal
-    abbrev pub Item : Type 0
-    Item = Option Packet
-
-    abbrev pub sentItem : Option Packet → Option Item
-    sentItem none = none
-    sentItem (some p) = some (some p)
-
-    abbrev pub signalItem : Bool → Option Item
-    signalItem true = some none
-    signalItem false = none
-
     -- an end puts something, or nothing, on its way: the protocol has it there, and X holds of what comes then
     abbrev pub Emits : Party → Option Item → Protocol → (Protocol → Type 1) → Type 1
     Emits r none g X = X g
-    Emits r (some (some p)) (message s D pk K) X = (o : Is r s) × (a : D) × (p ≡ pk a) × X (K a)
-    Emits r (some (some p)) (signal s D pk K) X = Never
-    Emits r (some (some p)) (finish F j) X = Never
-    Emits r (some none) (message s D pk K) X = Never
-    Emits r (some none) (signal s D pk K) X = (o : Is r s) × X (message (other s) D pk K)
-    Emits r (some none) (finish F j) X = Never
+    Emits r (some (aPacket p)) (message s D pk K) X = (o : Is r s) × (a : D) × (p ≡ pk a) × X (K a)
+    Emits r (some (aPacket p)) (signal s D pk K) X = Never
+    Emits r (some (aPacket p)) (finish F j) X = Never
+    Emits r (some aSignal) (message s D pk K) X = Never
+    Emits r (some aSignal) (signal s D pk K) X = (o : Is r s) × X (message (other s) D pk K)
+    Emits r (some aSignal) (finish F j) X = Never
 
     -- a packet of the other end, where the protocol has one
     abbrev pub Packets : (Protocol → Local → Program → Type 1) → Party → Protocol → Local → Machine → Type 1
@@ -211,48 +295,6 @@ module _ (S : System) where
     pub record Follows (d : ℕ) (r : Party) (g : Protocol) (l : Local) (p : Program) : Type 1 where
       pub fits : Fits d r g l p
 
-    -- ---- a program on fair answers
-
-    -- each answer that is read is a fair reply
-    abbrev pub FairOn : (c : Call) → (Reply c → ℕ → Type 0) → Taken (Reply c) → Type 0
-    FairOn c F (got x n) = ((y : Fair c) × (x ≡ fairly c y)) × F x n
-    FairOn c F wants = Unit {0}
-    FairOn c F refused = ⊥
-
-    abbrev pub FairOf : List Octet → Program → ℕ → Type 0
-    FairOf s (ret m) at = Unit {0}
-    FairOf s (ask c k) at = FairOn c (λ x n. FairOf s (k x) n) (read c s at)
-
-    -- what is asked of the reading of answers, and of hosts: a fair host's answers are fair
-    pub record Hosts : Type 0 where
-      pub reads : Reads read
-      pub fair : (p : Program) (s : List Octet) → Host p s → FairOf s p 0
-
-    -- a program on fair answers ends, or wants
-    abbrev pub Stopped : List Octet → Program → ℕ → Type 0
-    Stopped s p at =
-        ((m : Machine) × (play read s p at .ending ≡ ended m) × (rest read s p at ≡ ret m))
-        ⊎ ((c : Call) × (k : Reply c → Program) × (play read s p at .ending ≡ wanting) × (rest read s p at ≡ ask c k))
-
-    pub stops : (s : List Octet) (p : Program) (at : ℕ) → FairOf s p at → Stopped s p at
-    stops s =
-        along read s (λ p at. FairOf s p at → Stopped s p at)
-        (λ m at f. inl (m, refl, refl))
-        (λ c k at e f. inr (c, k, rw e refl, rw e refl))
-        (λ c k at e f. absurd (rw e at f))
-        (λ c k at x n e rec f. rw e (rec ((rw e at f) .1)))
-
-    -- what is left of it is fair on more answers
-    pub fair-again :
-        Reads read → (s w : List Octet) (p : Program) (at : ℕ) → FairOf (s ++ w) p at →
-        FairOf (s ++ w) (rest read s p at) (play read s p at .place)
-    fair-again law s w =
-        along read s (λ p at. FairOf (s ++ w) p at → FairOf (s ++ w) (rest read s p at) (play read s p at .place))
-        (λ m at f. tt)
-        (λ c k at e f. rw e f)
-        (λ c k at e f. rw e f)
-        (λ c k at x n e rec f. rw e (rec ((rw (law .keeps c s w at x n e) at f) .1)))
-
     -- ---- two ends in step
 
     -- what is on its way from one end, item by item, leads the protocol on to where Y holds
@@ -279,22 +321,22 @@ module _ (S : System) where
         (r : Party) (o : Option Item) (g : Protocol) {X Y : Protocol → Type 1} → ((g₁ : Protocol) → X g₁ → Y g₁) →
         Emits r o g X → Emits r o g Y
     emits-map r none g f h = f g h
-    emits-map r (some (some p)) (message s D pk K) f h = (h .0, h .1, h .2, f (K (h .1)) (h .3))
-    emits-map r (some (some p)) (signal s D pk K) f h = h
-    emits-map r (some (some p)) (finish F j) f h = h
-    emits-map r (some none) (message s D pk K) f h = h
-    emits-map r (some none) (signal s D pk K) f h = (h .0, f (message (other s) D pk K) (h .1))
-    emits-map r (some none) (finish F j) f h = h
+    emits-map r (some (aPacket p)) (message s D pk K) f h = (h .0, h .1, h .2, f (K (h .1)) (h .3))
+    emits-map r (some (aPacket p)) (signal s D pk K) f h = h
+    emits-map r (some (aPacket p)) (finish F j) f h = h
+    emits-map r (some aSignal) (message s D pk K) f h = h
+    emits-map r (some aSignal) (signal s D pk K) f h = (h .0, f (message (other s) D pk K) (h .1))
+    emits-map r (some aSignal) (finish F j) f h = h
 
     emits-end : (r : Party) (o : Option Item) (g : Protocol) (X : Protocol → Type 1) → Emits r o g X → (g₁ : Protocol)
         × X g₁
     emits-end r none g X h = (g, h)
-    emits-end r (some (some p)) (message s D pk K) X h = (K (h .1), h .3)
-    emits-end r (some (some p)) (signal s D pk K) X h = never h
-    emits-end r (some (some p)) (finish F j) X h = never h
-    emits-end r (some none) (message s D pk K) X h = never h
-    emits-end r (some none) (signal s D pk K) X h = (message (other s) D pk K, h .1)
-    emits-end r (some none) (finish F j) X h = never h
+    emits-end r (some (aPacket p)) (message s D pk K) X h = (K (h .1), h .3)
+    emits-end r (some (aPacket p)) (signal s D pk K) X h = never h
+    emits-end r (some (aPacket p)) (finish F j) X h = never h
+    emits-end r (some aSignal) (message s D pk K) X h = never h
+    emits-end r (some aSignal) (signal s D pk K) X h = (message (other s) D pk K, h .1)
+    emits-end r (some aSignal) (finish F j) X h = never h
 
     along-map :
         (r : Party) (q : List Item) (g : Protocol) {X Y : Protocol → Type 1} → ((g₁ : Protocol) → X g₁ → Y g₁) →
@@ -321,14 +363,14 @@ module _ (S : System) where
     not-both :
         (r : Party) (i i₁ : Item) (g : Protocol) (X Y : Protocol → Type 1) →
         Emits r (some i) g X → Emits (other r) (some i₁) g Y → ⊥
-    not-both r (some p) (some p₁) (message s D pk K) X Y h k = apart r s (h .0) (k .0)
-    not-both r (some p) none (message s D pk K) X Y h k = never k
-    not-both r none i₁ (message s D pk K) X Y h k = never h
-    not-both r (some p) i₁ (signal s D pk K) X Y h k = never h
-    not-both r none (some p) (signal s D pk K) X Y h k = never k
-    not-both r none none (signal s D pk K) X Y h k = apart r s (h .0) (k .0)
-    not-both r (some p) i₁ (finish F j) X Y h k = never h
-    not-both r none i₁ (finish F j) X Y h k = never h
+    not-both r (aPacket p) (aPacket p₁) (message s D pk K) X Y h k = apart r s (h .0) (k .0)
+    not-both r (aPacket p) aSignal (message s D pk K) X Y h k = never k
+    not-both r aSignal i₁ (message s D pk K) X Y h k = never h
+    not-both r (aPacket p) i₁ (signal s D pk K) X Y h k = never h
+    not-both r aSignal (aPacket p) (signal s D pk K) X Y h k = never k
+    not-both r aSignal aSignal (signal s D pk K) X Y h k = apart r s (h .0) (k .0)
+    not-both r (aPacket p) i₁ (finish F j) X Y h k = never h
+    not-both r aSignal i₁ (finish F j) X Y h k = never h
 
     -- the end r goes on, and emits nothing
     pub onward :
@@ -353,47 +395,6 @@ module _ (S : System) where
         absurd (not-both r i i₁ (h .0) X (λ g. Along (other r) to g Y) (h .2) (h .3))
     emit r o to from X Y (inr h) =
         inr (h .0, h .1, h .2, rw other-other (along-emit r o from (h .0) X (rw other-other at (h .3))))
-
-    -- ---- what is on its way is what the link holds, in an order that the link forgets
-
-    abbrev pub Held : List Item → List Packet → (signs : ℕ) → Type 0
-    Held [] [] zero = Unit {0}
-    Held [] [] (suc n) = ⊥
-    Held [] (p ∷ w) n = ⊥
-    Held (some p ∷ q) [] n = ⊥
-    Held (some p ∷ q) (p₁ ∷ w) n = (p ≡ p₁) × Held q w n
-    Held (none ∷ q) w zero = ⊥
-    Held (none ∷ q) w (suc n) = Held q w n
-
-    pub held-sent :
-        (o : Option Packet) (q : List Item) (w : List Packet) (n : ℕ) → Held q w n →
-        Held (q ++ optional (sentItem o)) (w ++ optional o) n
-    held-sent none [] [] zero h = h
-    held-sent (some p) [] [] zero h = (refl, h)
-    held-sent o [] [] (suc n) h = absurd h
-    held-sent o [] (p ∷ w) n h = absurd h
-    held-sent o (some p ∷ q) [] n h = absurd h
-    held-sent o (some p ∷ q) (p₁ ∷ w) n h = (h .0, held-sent o q w n (h .1))
-    held-sent o (none ∷ q) w zero h = absurd h
-    held-sent o (none ∷ q) w (suc n) h = held-sent o q w n h
-
-    pub held-signal :
-        (b : Bool) (q : List Item) (w : List Packet) (n : ℕ) → Held q w n →
-        Held (q ++ optional (signalItem b)) w (plusOne b n)
-    held-signal true [] [] zero h = h
-    held-signal false [] [] zero h = h
-    held-signal b [] [] (suc n) h = absurd h
-    held-signal b [] (p ∷ w) n h = absurd h
-    held-signal b (some p ∷ q) [] n h = absurd h
-    held-signal b (some p ∷ q) (p₁ ∷ w) n h = (h .0, held-signal b q w n (h .1))
-    held-signal b (none ∷ q) w zero h = absurd h
-    held-signal true (none ∷ q) w (suc n) h = held-signal true q w n h
-    held-signal false (none ∷ q) w (suc n) h = held-signal false q w n h
-
-    pub held-nothing : (q : List Item) → Held q [] 0 → Empty q
-    held-nothing [] h = tt
-    held-nothing (some p ∷ q) h = h
-    held-nothing (none ∷ q) h = h
 
 -- ---- the rules by which an end is shown to follow a protocol
 

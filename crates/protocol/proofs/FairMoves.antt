@@ -40,9 +40,9 @@ module _ (shared : Shared) (s : Start) where
 
   fair-of :
       (answers : List ℕ) (p : Program Machine) (at : ℕ) → AreOctets answers → FairAnswers shared p answers at →
-      FairOf Ends Agrees answers p at
+      FairOf Ends answers p at
   fair-of answers p at octets =
-      along replyAt answers (λ p at. FairAnswers shared p answers at → FairOf Ends Agrees answers p at)
+      along replyAt answers (λ p at. FairAnswers shared p answers at → FairOf Ends answers p at)
       (λ m at f. tt)
       (λ c k at e f. rw e tt)
       (λ c k at e f. absurd (rw e at f))
@@ -50,7 +50,7 @@ module _ (shared : Shared) (s : Start) where
       rw e at f in rw e (fair-reply shared c answers at x n octets e (f₁ .0), rec (f₁ .1)))
       p at
 
-  hosts : Hosts Ends Agrees
+  hosts : Hosts Ends
   hosts = record { reads = reads; fair = λ p answers h. fair-of answers p 0 (h .0) (h .1) }
 
   -- ---- what holds of an end besides

@@ -13,7 +13,7 @@ use Rattle.protocol.specs.Program.{onTaken, play}
 use Rattle.protocol.proofs.Programs.{Reads, restOn, rest, wanting-last, rest-again, again-new}
 use Rattle.protocol.proofs.Exchange as exchange
 use Rattle.protocol.proofs.Exchange.{Party, opener, replier, other, Is, System, Never, never, optional, Empty}
-use Rattle.protocol.proofs.Exchange.{plusOne, not-other, apart-back, message, signal, finish, sentItem}
+use Rattle.protocol.proofs.Exchange.{plusOne, not-other, apart-back, aPacket, aSignal, message, signal, finish, sentItem}
 use Rattle.protocol.proofs.Exchange.{signalItem, Emits, Awaits, Takes, Unless, Follows, FairOn, Hosts, Stopped}
 use Rattle.protocol.proofs.Exchange.{stops, fair-again, turn, onward, somewhere, emit, held-sent, held-signal}
 use Rattle.protocol.proofs.Exchange.{held-nothing, gated-behind}
@@ -34,7 +34,7 @@ module _ (S : System) (Goal : S .Machine → exchange.Local S → S .Machine →
   Protocol = exchange.Protocol S Goal
 
   abbrev pub Item : Type 0
-  Item = exchange.Item S Goal
+  Item = exchange.Item S
 
   abbrev pub locally : Log → List Event → ℕ → Local
   locally = exchange.locally S
@@ -61,7 +61,7 @@ module _ (S : System) (Goal : S .Machine → exchange.Local S → S .Machine →
   Fits = exchange.Fits S Goal
 
   abbrev pub FairOf : List Octet → Program → ℕ → Type 0
-  FairOf = exchange.FairOf S Goal
+  FairOf = exchange.FairOf S
 
   abbrev pub Along : Party → List Item → Protocol → (Protocol → Type 1) → Type 1
   Along = exchange.Along S Goal
@@ -73,7 +73,7 @@ module _ (S : System) (Goal : S .Machine → exchange.Local S → S .Machine →
   Sync = exchange.Sync S Goal
 
   abbrev pub Held : List Item → List Packet → (signs : ℕ) → Type 0
-  Held = exchange.Held S Goal
+  Held = exchange.Held S
 
   -- ---- packets and signals arrive
 
@@ -85,10 +85,10 @@ module _ (S : System) (Goal : S .Machine → exchange.Local S → S .Machine →
       (q : List Item) × Held q w n × Sync r q from (λ g. X g (counted l (l .due)) (step r m (packet p))) Y
   deliver r X l m p w n [] from Y k s = absurd k
   deliver r X l m p w n (i ∷ to) from Y k (inr h) = absurd (h .1)
-  deliver r X l m p w n (some p₁ ∷ to) from Y k (inl h) = (to, k .1, inl (go (h .0) (h .2) (h .3)))
+  deliver r X l m p w n (aPacket p₁ ∷ to) from Y k (inl h) = (to, k .1, inl (go (h .0) (h .2) (h .3)))
     where
       go :
-          (g : Protocol) → Packets X r g l m → Along (other r) (some p₁ ∷ to) g Y →
+          (g : Protocol) → Packets X r g l m → Along (other r) (aPacket p₁ ∷ to) g Y →
           Lags r to from (λ g. X g (counted l (l .due)) (step r m (packet p))) Y
       go (message s D pk K) t a =
           let same : pk (a .1) ≡ p = sym (a .2) ∙ k .0 in
@@ -96,18 +96,18 @@ module _ (S : System) (Goal : S .Machine → exchange.Local S → S .Machine →
           (K (a .1), h .1, taken, a .3)
       go (signal s D pk K) t a = never a
       go (finish F j) t a = never a
-  deliver r X l m p w zero (none ∷ to) from Y k (inl h) = absurd k
-  deliver r X l m p w (suc n) (none ∷ to) from Y k (inl h) = absurd (go (h .0) (h .3))
+  deliver r X l m p w zero (aSignal ∷ to) from Y k (inl h) = absurd k
+  deliver r X l m p w (suc n) (aSignal ∷ to) from Y k (inl h) = absurd (go (h .0) (h .3))
     where
       -- behind a signal comes a packet of the other end
       behind-it :
           (s : Party) (D : Type 0) (pk : D → Packet) (K : D → Protocol) (q : List Item) → Is (other r) s →
           Along (other r) q (message (other s) D pk K) Y → Held q (p ∷ w) n → ⊥
       behind-it s D pk K [] o a k = k
-      behind-it s D pk K (some p₁ ∷ q) o a k = apart-back (other r) s o (a .0)
-      behind-it s D pk K (none ∷ q) o a k = never a
+      behind-it s D pk K (aPacket p₁ ∷ q) o a k = apart-back (other r) s o (a .0)
+      behind-it s D pk K (aSignal ∷ q) o a k = never a
 
-      go : (g : Protocol) → Along (other r) (none ∷ to) g Y → ⊥
+      go : (g : Protocol) → Along (other r) (aSignal ∷ to) g Y → ⊥
       go (message s D pk K) a = never a
       go (signal s D pk K) a = behind-it s D pk K to (a .0) (a .1) k
       go (finish F j) a = never a
@@ -119,15 +119,15 @@ module _ (S : System) (Goal : S .Machine → exchange.Local S → S .Machine →
   use-signal r X Y [] n [] from k s = absurd k
   use-signal r X Y (p ∷ w) n [] from k s = absurd k
   use-signal r X Y w n (i ∷ to) from k (inr h) = absurd (h .1)
-  use-signal r X Y w n (some p ∷ to) from k (inl h) = absurd (go (h .0) (h .2) (h .3))
+  use-signal r X Y w n (aPacket p ∷ to) from k (inl h) = absurd (go (h .0) (h .2) (h .3))
     where
-      go : (g : Protocol) → Behind r g X → Along (other r) (some p ∷ to) g Y → ⊥
+      go : (g : Protocol) → Behind r g X → Along (other r) (aPacket p ∷ to) g Y → ⊥
       go (message s D pk K) b a = never b
       go (signal s D pk K) b a = never a
       go (finish F j) b a = never a
-  use-signal r X Y w n (none ∷ to) from k (inl h) = (to, k, inl (go (h .0) (h .2) (h .3)))
+  use-signal r X Y w n (aSignal ∷ to) from k (inl h) = (to, k, inl (go (h .0) (h .2) (h .3)))
     where
-      go : (g : Protocol) → Behind r g X → Along (other r) (none ∷ to) g Y → Lags r to from X Y
+      go : (g : Protocol) → Behind r g X → Along (other r) (aSignal ∷ to) g Y → Lags r to from X Y
       go (message s D pk K) b a = never b
       go (signal s D pk K) b a = (message (other s) D pk K, h .1, b .1, a .1)
       go (finish F j) b a = never a
@@ -162,20 +162,20 @@ module _ (S : System) (Goal : S .Machine → exchange.Local S → S .Machine →
   runs (suc d) r s (ask c k) at l to from w n Y f held h = go (λ x j. runs d r s (k x) j) (read c s at) f
     where
       from₁ : List Item
-      from₁ = from ++ optional (sentItem S Goal (sent c))
+      from₁ = from ++ optional (sentItem S (sent c))
 
       held₁ : Held from₁ (w ++ optional (sent c)) n
-      held₁ = held-sent S Goal (sent c) from w n held
+      held₁ = held-sent S (sent c) from w n held
 
       asked : Sync r to from₁ (λ g. (x : Fair c) → Fits d r g (note c l) (k (fairly c x))) Y
-      asked = emit S Goal r (sentItem S Goal (sent c)) to from
+      asked = emit S Goal r (sentItem S (sent c)) to from
           (λ g. (x : Fair c) → Fits d r g (note c l) (k (fairly c x))) Y h
 
       go :
           ((x : Reply c) (j : ℕ) (l : Local) (to from : List Item) (w : List Packet) (n : ℕ) (Y : Protocol → Type 1) →
           FairOf s (k x) j → Held from w n → Sync r to from (λ g. Fits d r g l (k x)) Y →
           Comes d r (rest read s (k x) j) (play read s (k x) j .calls) l to w n Y) →
-          (z : Taken (Reply c)) → FairOn S Goal c (λ x j. FairOf s (k x) j) z →
+          (z : Taken (Reply c)) → FairOn S c (λ x j. FairOf s (k x) j) z →
           Comes (suc d) r (restOn (ask c k) (λ x j. rest read s (k x) j) z)
           (c ∷ onTaken at (λ x j. play read s (k x) j) z .calls) l to w n Y
       go rec (got x j) f =
@@ -195,7 +195,7 @@ module _ (S : System) (Goal : S .Machine → exchange.Local S → S .Machine →
   runs-on law d r s c k at l to from w n Y b f held h = go (read c s at) refl f
     where
       go :
-          (z : Taken (Reply c)) → read c s at ≡ z → FairOn S Goal c (λ x j. FairOf s (k x) j) z →
+          (z : Taken (Reply c)) → read c s at ≡ z → FairOn S c (λ x j. FairOf s (k x) j) z →
           Comes d r (restOn (ask c k) (λ x j. rest read s (k x) j) z)
           (onTaken at (λ x j. play read s (k x) j) z .calls) l to w n Y
       go (got x j) e f =
@@ -249,7 +249,7 @@ module _ (S : System) (Goal : S .Machine → exchange.Local S → S .Machine →
 
   holds-after :
       (d : ℕ) (r : Party) (g : Protocol) (l : Local) (m : Machine) (i : Input) (s : List Octet) →
-      Host (step r m i) s → Stopped S Goal s (step r m i) 0 →
+      Host (step r m i) s → Stopped S s (step r m i) 0 →
       Stands d r g l (rest read s (step r m i) 0) →
       Holds d r g l (actAfter m i s (play read s (step r m i) 0 .ending))
   holds-after d r g l m i s host (inl z) h =
@@ -270,13 +270,13 @@ module _ (S : System) (Goal : S .Machine → exchange.Local S → S .Machine →
 
   -- the end of a move of r, by what its program comes to
   closes :
-      Hosts S Goal → (r : Party) (d e : ℕ) (m : Machine) (i : Input) (s : List Octet) (cs : List Call) (l : Local)
+      Hosts S → (r : Party) (d e : ℕ) (m : Machine) (i : Input) (s : List Octet) (cs : List Call) (l : Local)
       (w : List Packet) (n : ℕ) (y : Side) (b : Bool) (to : List Item) →
       Host (step r m i) s → Held to w n →
       Comes d r (rest read s (step r m i) 0) cs l to (y .queue) (plusOne b (y .signs)) (Standing e (other r) y) →
       Kept r d e (sideAfter r m i s cs l w n) (receives cs b y)
   closes H r d e m i s cs l w n y b to host held z =
-      let stop = stops S Goal s (step r m i) 0 (H .fair (step r m i) s host) in
+      let stop = stops S s (step r m i) 0 (H .fair (step r m i) s host) in
       let after = sideAfter r m i s cs l w n in
       let stands = onward S Goal r to (z .2) {X₁ = Standing (z .0) r after}
       (λ g h. holds-after (z .0) r g (noteAll cs l) m i s host stop h) (z .4) in
@@ -303,7 +303,7 @@ module _ (S : System) (Goal : S .Machine → exchange.Local S → S .Machine →
   idle-event X r g l m v e (e₁ ∷ []) later q h = never (subst (λ v. Idle X r g l m v) q h)
   idle-event X r g l m v e (e₁ ∷ (e₂ ∷ earlier)) later q h = never (subst (λ v. Idle X r g l m v) q h)
 
-  module _ (H : Hosts S Goal) (r : Party) (d e : ℕ) (m : Machine) (l : Local) (w : List Packet) (s : List Octet)
+  module _ (H : Hosts S) (r : Party) (d e : ℕ) (m : Machine) (l : Local) (w : List Packet) (s : List Octet)
       (y : Side)
     where
       abbrev There : Protocol → Type 1
@@ -338,13 +338,13 @@ module _ (S : System) (Goal : S .Machine → exchange.Local S → S .Machine →
             let p = step r m (event ε) in
             let b = signals r ε in
             let due = onward S Goal r (z .0) (z .1)
-            {X₁ = λ g. Emits S Goal r (signalItem S Goal b) g (λ g₁. Fits d r g₁ l₁ p)} (λ g h.
+            {X₁ = λ g. Emits S Goal r (signalItem S b) g (λ g₁. Fits d r g₁ l₁ p)} (λ g h.
             subst (λ x. Takes S Goal x b r g (λ g₁. Fits d r g₁ l₁ p)) u
             (idle-event (Fits d r) r g l m (l .due) ε earlier later q h)) (z .4) in
             closes H r d e m (event ε) s taken l₁ w n y b (z .0) host (z .2)
-            (runs d r s p 0 l₁ (z .0) (z .1 ++ optional (signalItem S Goal b)) (y .queue) (plusOne b (y .signs)) There
-            (H .fair p s host) (held-signal S Goal b (z .1) (y .queue) (y .signs) (z .3))
-            (emit S Goal r (signalItem S Goal b) (z .0) (z .1) (λ g. Fits d r g l₁ p) There due))
+            (runs d r s p 0 l₁ (z .0) (z .1 ++ optional (signalItem S b)) (y .queue) (plusOne b (y .signs)) There
+            (H .fair p s host) (held-signal S b (z .1) (y .queue) (y .signs) (z .3))
+            (emit S Goal r (signalItem S b) (z .0) (z .1) (λ g. Fits d r g l₁ p) There due))
 
         -- an event behind a signal of the other end
         pub behind-kept :
@@ -374,7 +374,7 @@ module _ (S : System) (Goal : S .Machine → exchange.Local S → S .Machine →
           let held = somewhere S Goal r (z .0) (z .1) (λ g. Holds d r g l (busy m i s)) There (z .4) .1 in
           let q = wanting-last read (H .reads) s p 0 (held .1) in
           let at = play read s p 0 .place in
-          let f = subst (λ t. FairOf s₂ t at) (q .4) (fair-again S Goal (H .reads) s (x ∷ s₁) p 0 (H .fair p s₂ host))
+          let f = subst (λ t. FairOf s₂ t at) (q .4) (fair-again S (H .reads) s (x ∷ s₁) p 0 (H .fair p s₂ host))
           in
           let longer : at < length s₂ = omega (arith, q .5, length-append s (x ∷ s₁)) in
           let stands = onward S Goal r (z .0) (z .1) {X₁ = λ g. Stands d r g l (ask (q .1) (q .2))} (λ g h.
@@ -422,14 +422,14 @@ module _ (S : System) (Goal : S .Machine → exchange.Local S → S .Machine →
       (w : List Packet) (to from : List Item) (Y : Protocol → Type 1) →
       gated r ε ≡ true → Held to (p ∷ w) 0 → Sync r to from (λ g. Idle X r g l m (ε ∷ [])) Y → ⊥
   no-packet r X l m ε p w [] from Y u k s = k
-  no-packet r X l m ε p w (none ∷ to) from Y u k s = k
-  no-packet r X l m ε p w (some p₁ ∷ to) from Y u k (inr h) = h .1
-  no-packet r X l m ε p w (some p₁ ∷ to) from Y u k (inl h) =
+  no-packet r X l m ε p w (aSignal ∷ to) from Y u k s = k
+  no-packet r X l m ε p w (aPacket p₁ ∷ to) from Y u k (inr h) = h .1
+  no-packet r X l m ε p w (aPacket p₁ ∷ to) from Y u k (inl h) =
       go (h .0) (gated-behind S Goal r ε (h .0) (λ g. X g (counted l []) (step r m (event ε))) u (h .2 .0)) (h .3)
     where
       go :
           (g : Protocol) → Behind r g (λ g₁. X g₁ (counted l []) (step r m (event ε))) →
-          Along (other r) (some p₁ ∷ to) g Y → ⊥
+          Along (other r) (aPacket p₁ ∷ to) g Y → ⊥
       go (message s D pk K) b a = never b
       go (signal s D pk K) b a = never a
       go (finish F j) b a = never b
@@ -439,11 +439,11 @@ module _ (S : System) (Goal : S .Machine → exchange.Local S → S .Machine →
       (r : Party) (X : Protocol → Local → Program → Type 1) (l : Local) (m : Machine) (n : ℕ) (to from : List Item)
       (Y : Protocol → Type 1) → Held to [] (suc n) → Sync r to from (λ g. Idle X r g l m []) Y → ⊥
   no-sign r X l m n [] from Y k s = k
-  no-sign r X l m n (some p ∷ to) from Y k s = k
-  no-sign r X l m n (none ∷ to) from Y k (inr h) = h .1
-  no-sign r X l m n (none ∷ to) from Y k (inl h) = go (h .0) (h .2) (h .3)
+  no-sign r X l m n (aPacket p ∷ to) from Y k s = k
+  no-sign r X l m n (aSignal ∷ to) from Y k (inr h) = h .1
+  no-sign r X l m n (aSignal ∷ to) from Y k (inl h) = go (h .0) (h .2) (h .3)
     where
-      go : (g : Protocol) → Awaits S Goal X r g l m → Along (other r) (none ∷ to) g Y → ⊥
+      go : (g : Protocol) → Awaits S Goal X r g l m → Along (other r) (aSignal ∷ to) g Y → ⊥
       go (message s D pk K) b a = never a
       go (signal s D pk K) b a = never b
       go (finish F j) b a = never a
@@ -563,8 +563,8 @@ module _ (S : System) (Goal : S .Machine → exchange.Local S → S .Machine →
       go (inl c) b = inl (inl c)
       go (inr a) (inl c) = inl (inr c)
       go (inr a) (inr b) =
-          let none-to = held-nothing S Goal (z .0) (subst₂ (Held (z .0)) (a .noPacket) (a .noSign) (z .2)) in
-          let none-from = held-nothing S Goal (z .1) (subst₂ (Held (z .1)) (b .noPacket) (b .noSign) (z .3)) in
+          let none-to = held-nothing S (z .0) (subst₂ (Held (z .0)) (a .noPacket) (a .noSign) (z .2)) in
+          let none-from = held-nothing S (z .1) (subst₂ (Held (z .1)) (b .noPacket) (b .noSign) (z .3)) in
           let at = meet (z .0) (z .1) (Standing d opener x) (Standing e replier y) none-to none-from (z .4) in
           let end = over d e (at .0) (x .state) (y .state) (a .machine) (b .machine) (a .waits) (b .waits)
           (subst (λ c. Holds d opener (at .0) (x .state) c) (a .isIdle) (at .1))
@@ -589,4 +589,4 @@ module _ (S : System) (Goal : S .Machine → exchange.Local S → S .Machine →
       InStep opener d e (side (idle m) l [] 0) (side (idle m₁) l₁ (pk a ∷ []) 0)
   unfolding exchange.Fits
   start {D = D} {pk = pk} {K = K} a t h =
-      ([], some (pk a) ∷ [], tt, (refl, tt), inr (message opener D pk K, tt, h .fits, (tt, a, refl, t .fits)))
+      ([], aPacket (pk a) ∷ [], tt, (refl, tt), inr (message opener D pk K, tt, h .fits, (tt, a, refl, t .fits)))
