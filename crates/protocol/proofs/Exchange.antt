@@ -139,7 +139,7 @@ module _ (S : System) where
 
   -- ---- what is on its way is what the link holds, in an order that the link forgets
 
-  abbrev pub Held : List Item → List Packet → (signs : ℕ) → Type 0
+  abbrev pub Held : List Item → List Packet → (unused : ℕ) → Type 0
   Held [] [] zero = Unit {0}
   Held [] [] (suc n) = ⊥
   Held [] (p ∷ w) n = ⊥

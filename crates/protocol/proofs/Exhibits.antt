@@ -30,14 +30,14 @@ use Rattle.protocol.specs.FairRuns.{entries, keys, responseIn, responses
 use Rattle.protocol.proofs.FairSides.{of-all-append}
 use Rattle.protocol.proofs.FairRunsEnd.{every-fair-run-ends}
 
-abbrev allOctets : List ℕ → Bool
-allOctets [] = true
-allOctets (x ∷ l) = ltb x 256 && allOctets l
+abbrev areAllOctets : List ℕ → Bool
+areAllOctets [] = true
+areAllOctets (x ∷ l) = ltb x 256 && areAllOctets l
 
-are-octets : (l : List ℕ) → allOctets l ≡ true → AreOctets l
+are-octets : (l : List ℕ) → areAllOctets l ≡ true → AreOctets l
 are-octets [] h = tt
 are-octets (x ∷ l) h =
-    let both = and-eq-true-iff (ltb x 256) (allOctets l) .0 h in
+    let both = and-eq-true-iff (ltb x 256) (areAllOctets l) .0 h in
     (ltb-true x 256 (both .0), are-octets l (both .1))
 
 -- ---- starts
@@ -49,8 +49,8 @@ startOf terminal head request features =
 
 -- such a start with both sizes 16 is fair, if the head names no key that the request lacks
 fair-start :
-    (a b : Address) (request features : PairingFeatures) → allOctets (featureOctets request) ≡ true →
-    allOctets (featureOctets features) ≡ true → request .«maximum_encryption_key_size» ≡ 16 →
+    (a b : Address) (request features : PairingFeatures) → areAllOctets (featureOctets request) ≡ true →
+    areAllOctets (featureOctets features) ≡ true → request .«maximum_encryption_key_size» ≡ 16 →
     features .«maximum_encryption_key_size» ≡ 16 →
     NamesNoMore (features .«initiator_key_distribution») (request .«initiator_key_distribution») →
     FairStart (startOf a b request features)
@@ -110,19 +110,19 @@ shortest shared a b =
 
 -- ---- the excepted case: no wish to bond, and the request names the terminal's identity key
 
-abbrev identityNamed : PairingFeatures
-identityNamed = featuresWith (3 ∷ 0 ∷ 0 ∷ 16 ∷ 2 ∷ 0 ∷ []) io.NoInputNoOutput NotPresent 16
+abbrev namingIdentity : PairingFeatures
+namingIdentity = featuresWith (3 ∷ 0 ∷ 0 ∷ 16 ∷ 2 ∷ 0 ∷ []) io.NoInputNoOutput NotPresent 16
 
-identity-fair : (a b : Address) → FairStart (startOf a b identityNamed plain)
+identity-fair : (a b : Address) → FairStart (startOf a b namingIdentity plain)
 identity-fair a b =
-    fair-start a b identityNamed plain refl refl refl refl (record { encryption = λ h. h; identity = λ h. refl })
+    fair-start a b namingIdentity plain refl refl refl refl (record { encryption = λ h. h; identity = λ h. refl })
 
 pub head-left-waiting :
     (shared : Shared) (a b : Address) →
-    (moves : ℕ) × (inputs : ℕ) × (L : Link) × Run shared (freshLink (startOf a b identityNamed plain)) moves inputs L
+    (moves : ℕ) × (inputs : ℕ) × (L : Link) × Run shared (freshLink (startOf a b namingIdentity plain)) moves inputs L
     × (L .terminal .machine .phase ≡ phase.Success) × WaitsForIdentityKey (L .head .machine)
 head-left-waiting shared a b =
-    let s = startOf a b identityNamed plain in
+    let s = startOf a b namingIdentity plain in
     let z = some-run shared s (identity-fair a b) in
     let ends = every-fair-run-ends s (identity-fair a b) .1 shared .comesTo (z .0) (z .1) (z .2) (z .3) in
     (z .0, z .1, z .2, z .3, ends .terminalEnds, ends .headEnds)

@@ -26,7 +26,7 @@ use Rattle.protocol.proofs.FairReplies.{fair-reply, more-answers}
 use Rattle.protocol.proofs.Exchange.{Party, opener, replier, plusOne, System, Local, locally, FairOf, Hosts}
 use Rattle.protocol.proofs.InStep.{Act, Side, side, InStep, in-step-turned, sideAfter, Kept, packet-kept, event-kept, behind-kept, again-kept, Can, packet-can, event-can, behind-can, again-can, Over, progress}
 use Rattle.protocol.proofs.InStep.{receives as received}
-use Rattle.protocol.proofs.Pairing.{roleOf, summary, oobOf, oobBefore, pairing, Agreed}
+use Rattle.protocol.proofs.Pairing.{roleOf, summary, heldBack, releases, pairing, Agreed}
 use Rattle.protocol.proofs.FairSides.{actOf, sideOf, note-all, send-all, KnownGiven, AllKnown, all-known, act-after, not-refused, one, oobs, oobs-append, oobs-made-by-all, OobOnce}
 
 module _ (shared : Shared) (s : Start) where
@@ -195,19 +195,19 @@ module _ (shared : Shared) (s : Start) where
 
     module _ (ε : Due) (earlier later : List Due) (answers : List ℕ) where
       event-step :
-          (n : ℕ) → this .openStep ≡ none → this .due ≡ earlier ++ (ε ∷ later) → oobOf p ε ≡ false →
+          (n : ℕ) → this .openStep ≡ none → this .due ≡ earlier ++ (ε ∷ later) → heldBack p ε ≡ false →
           FairHost shared (roleOf p) L (anEvent ε) answers → InStepThere n →
           After (anEvent ε) answers (this .queue) (earlier ++ later) (callsAt shared (roleOf p) L (anEvent ε) answers)
-          (suc k) n (plusOne (oobBefore p ε) n₂)
+          (suc k) n (plusOne (releases p ε) n₂)
       unfolding callsAt playOf
       event-step n o q u host z =
-          after (anEvent ε) answers (this .queue) (earlier ++ later) _ (suc k) n (oobBefore p ε) tt
+          after (anEvent ε) answers (this .queue) (earlier ++ later) _ (suc k) n (releases p ε) tt
           (event-kept Ends Agrees hosts p d e (this .machine)
           (locally Ends (summary (this .calls)) (this .due) k) (this .queue) answers (sideOf shared s k₂ n₂ that)
           ε earlier later n q u (host .octets, host .fair) (not-open n (this .queue) o refl z))
 
       behind-step :
-          (n : ℕ) → this .openStep ≡ none → this .due ≡ earlier ++ (ε ∷ later) → oobOf p ε ≡ true →
+          (n : ℕ) → this .openStep ≡ none → this .due ≡ earlier ++ (ε ∷ later) → heldBack p ε ≡ true →
           FairHost shared (roleOf p) L (anEvent ε) answers → InStepThere (suc n) →
           After (anEvent ε) answers (this .queue) (earlier ++ later) (callsAt shared (roleOf p) L (anEvent ε) answers)
           (suc k) n n₂
@@ -263,8 +263,8 @@ module _ (shared : Shared) (s : Start) where
   -- ---- the link, in step
 
   -- the head's signal that the terminal has not used
-  abbrev signs : (terminalHad headHad : Bool) → ℕ
-  signs terminalHad headHad = one (headHad && not terminalHad)
+  abbrev unusedSignals : (terminalHad headHad : Bool) → ℕ
+  unusedSignals terminalHad headHad = one (headHad && not terminalHad)
 
   pub record LinkInStep (d e inputs : ℕ) (L : Link) : Type 1 where
     pub terminalInputs : ℕ
@@ -272,7 +272,7 @@ module _ (shared : Shared) (s : Start) where
     pub total : terminalInputs + headInputs ≡ inputs
     pub inStep :
         InStep Ends Agrees opener d e
-        (sideOf shared s terminalInputs (signs (L .terminal .hadOob) (L .head .hadOob)) (L .terminal))
+        (sideOf shared s terminalInputs (unusedSignals (L .terminal .hadOob) (L .head .hadOob)) (L .terminal))
         (sideOf shared s headInputs 0 (L .head))
     pub terminalSound : Sound (L .terminal)
     pub headSound : Sound (L .head)
@@ -283,16 +283,16 @@ module _ (shared : Shared) (s : Start) where
   Fewer d e inputs L = (d₁ : ℕ) × (e₁ : ℕ) × (d₁ + e₁ < d + e) × LinkInStep d₁ e₁ inputs L
 
   module _ (L : Link) (d e n : ℕ) (h : LinkInStep d e n L) where
-    abbrev signsNow : ℕ
-    signsNow = signs (L .terminal .hadOob) (L .head .hadOob)
+    abbrev unusedNow : ℕ
+    unusedNow = unusedSignals (L .terminal .hadOob) (L .head .hadOob)
 
     -- the head's side first
     head-in-step :
         InStep Ends Agrees replier e d
-        (sideOf shared s (h .headInputs) 0 (L .head)) (sideOf shared s (h .terminalInputs) signsNow (L .terminal))
+        (sideOf shared s (h .headInputs) 0 (L .head)) (sideOf shared s (h .terminalInputs) unusedNow (L .terminal))
     head-in-step =
         in-step-turned Ends Agrees opener d e
-        (sideOf shared s (h .terminalInputs) signsNow (L .terminal)) (sideOf shared s (h .headInputs) 0 (L .head))
+        (sideOf shared s (h .terminalInputs) unusedNow (L .terminal)) (sideOf shared s (h .headInputs) 0 (L .head))
         (h .inStep)
 
     -- a move of the terminal
@@ -300,7 +300,7 @@ module _ (shared : Shared) (s : Start) where
       terminal-moved :
           (k : ℕ) →
           After opener L (L .head) d e (h .terminalInputs) (h .headInputs) 0 g answers queue due new k
-          (signs (hadOobAfter g (L .terminal .hadOob)) (L .head .hadOob)) 0 →
+          (unusedSignals (hadOobAfter g (L .terminal .hadOob)) (L .head .hadOob)) 0 →
           KnownGiven g → AllKnown queue →
           oobs due + one (hadOobAfter g (L .terminal .hadOob)) ≡ one (hasListed 0x25 (L .terminal .calls)) →
           (hadOobAfter g (L .terminal .hadOob) ≡ true → L .head .hadOob ≡ true) →
@@ -323,14 +323,14 @@ module _ (shared : Shared) (s : Start) where
       -- a move of the head
       head-moved :
           (k : ℕ) →
-          After replier L (L .terminal) e d (h .headInputs) (h .terminalInputs) signsNow g answers queue due new k 0
-          (signs (L .terminal .hadOob) (hadOobAfter g (L .head .hadOob))) →
+          After replier L (L .terminal) e d (h .headInputs) (h .terminalInputs) unusedNow g answers queue due new k 0
+          (unusedSignals (L .terminal .hadOob) (hadOobAfter g (L .head .hadOob))) →
           KnownGiven g → AllKnown queue →
           oobs due + one (hadOobAfter g (L .head .hadOob)) ≡ one (hasListed 0x25 (L .head .calls)) →
           (L .terminal .hadOob ≡ true → hadOobAfter g (L .head .hadOob) ≡ true) →
           Fewer d e (h .terminalInputs + k) (linkAfter shared Peripheral L g answers queue due new)
       head-moved k z known queued o first =
-          let n₁ = signs (L .terminal .hadOob) (hadOobAfter g (L .head .hadOob)) in (
+          let n₁ = unusedSignals (L .terminal .hadOob) (hadOobAfter g (L .head .hadOob)) in (
             d,
             z .0,
             omega (arith, z .1),
@@ -368,7 +368,7 @@ module _ (shared : Shared) (s : Start) where
           L .terminal .due ≡ earlier ++ (ε ∷ later) →
           After opener L (L .head) d e (h .terminalInputs) (h .headInputs) 0 (anEvent ε) answers (L .terminal .queue)
           (earlier ++ later) (callsAt shared Central L (anEvent ε) answers) (suc (h .terminalInputs))
-          (signs (hadOobAfter (anEvent ε) (L .terminal .hadOob)) (L .head .hadOob)) 0 →
+          (unusedSignals (hadOobAfter (anEvent ε) (L .terminal .hadOob)) (L .head .hadOob)) 0 →
           (hadOobAfter (anEvent ε) (L .terminal .hadOob) ≡ true → L .head .hadOob ≡ true) →
           Fewer d e (suc n) (linkAfter shared Central L (anEvent ε) answers (L .terminal .queue) (earlier ++ later)
           (callsAt shared Central L (anEvent ε) answers))
@@ -382,10 +382,10 @@ module _ (shared : Shared) (s : Start) where
 
       head-event :
           L .head .due ≡ earlier ++ (ε ∷ later) →
-          After replier L (L .terminal) e d (h .headInputs) (h .terminalInputs) signsNow (anEvent ε) answers
+          After replier L (L .terminal) e d (h .headInputs) (h .terminalInputs) unusedNow (anEvent ε) answers
           (L .head .queue)
           (earlier ++ later) (callsAt shared Peripheral L (anEvent ε) answers) (suc (h .headInputs)) 0
-          (signs (L .terminal .hadOob) (hadOobAfter (anEvent ε) (L .head .hadOob))) →
+          (unusedSignals (L .terminal .hadOob) (hadOobAfter (anEvent ε) (L .head .hadOob))) →
           (L .terminal .hadOob ≡ true → hadOobAfter (anEvent ε) (L .head .hadOob) ≡ true) →
           Fewer d e (suc n) (linkAfter shared Peripheral L (anEvent ε) answers (L .head .queue) (earlier ++ later)
           (callsAt shared Peripheral L (anEvent ε) answers))
@@ -407,8 +407,8 @@ module _ (shared : Shared) (s : Start) where
     terminal-oob earlier later answers o q u f =
         let unhad = not-had earlier later (L .terminal .due) (L .terminal .hadOob) (hasListed 0x25 (L .terminal .calls)) q
         (h .terminalSound .oobOnce) in
-        let before : signsNow ≡ 1 = rw (u, unhad) refl in
-        let after : signs true (L .head .hadOob) ≡ 0 = rw u refl in
+        let before : unusedNow ≡ 1 = rw (u, unhad) refl in
+        let after : unusedSignals true (L .head .hadOob) ≡ 0 = rw u refl in
         terminal-event oobData earlier later answers q
         (subst (λ x. After opener L (L .head) d e (h .terminalInputs) (h .headInputs) 0 (anEvent oobData) answers
         (L .terminal .queue) (earlier ++ later) (callsAt shared Central L (anEvent oobData) answers)
@@ -428,16 +428,16 @@ module _ (shared : Shared) (s : Start) where
         let unhad = not-had earlier later (L .head .due) (L .head .hadOob) (hasListed 0x25 (L .head .calls)) q
         (h .headSound .oobOnce) in
         head-event oobData earlier later answers q
-        (subst (λ x. After replier L (L .terminal) e d (h .headInputs) (h .terminalInputs) signsNow (anEvent oobData)
+        (subst (λ x. After replier L (L .terminal) e d (h .headInputs) (h .terminalInputs) unusedNow (anEvent oobData)
         answers
         (L .head .queue) (earlier ++ later) (callsAt shared Peripheral L (anEvent oobData) answers)
         (suc (h .headInputs)) 0 x) (signed (L .terminal .hadOob) (L .head .hadOob) unhad (h .headFirst))
-        (event-step replier L (L .terminal) e d (h .headInputs) (h .terminalInputs) signsNow oobData earlier later
+        (event-step replier L (L .terminal) e d (h .headInputs) (h .terminalInputs) unusedNow oobData earlier later
         answers 0
         o q refl f head-in-step))
         (λ had. refl)
       where
-        signed : (x y : Bool) → y ≡ false → (x ≡ true → y ≡ true) → plusOne true (signs x y) ≡ signs x true
+        signed : (x y : Bool) → y ≡ false → (x ≡ true → y ≡ true) → plusOne true (unusedSignals x y) ≡ unusedSignals x true
         signed true true q first = absurd (true≢false q)
         signed true false q first = absurd (true≢false (sym (first refl)))
         signed false true q first = absurd (true≢false q)
@@ -450,7 +450,7 @@ module _ (shared : Shared) (s : Start) where
         recounted (suc (h .terminalInputs) + h .headInputs) (suc n) L₁ (omega (arith, h .total))
         (terminal-moved (aPacket p) answers queue (L .terminal .due) (callsAt shared Central L (aPacket p) answers)
         (suc (h .terminalInputs))
-        (packet-step opener L (L .head) d e (h .terminalInputs) (h .headInputs) 0 signsNow p queue answers o q u f
+        (packet-step opener L (L .head) d e (h .terminalInputs) (h .headInputs) 0 unusedNow p queue answers o q u f
         (known .0) (h .inStep))
         (known .0) (known .1) (h .terminalSound .oobOnce) (h .headFirst))
     kept k L₁ (takePacket Peripheral p queue answers o q u f) =
@@ -458,12 +458,12 @@ module _ (shared : Shared) (s : Start) where
         recounted (h .terminalInputs + suc (h .headInputs)) (suc n) L₁ (omega (arith, h .total))
         (head-moved (aPacket p) answers queue (L .head .due) (callsAt shared Peripheral L (aPacket p) answers)
         (suc (h .headInputs))
-        (packet-step replier L (L .terminal) e d (h .headInputs) (h .terminalInputs) signsNow 0 p queue answers o q u f
+        (packet-step replier L (L .terminal) e d (h .headInputs) (h .terminalInputs) unusedNow 0 p queue answers o q u f
         (known .0) head-in-step)
         (known .0) (known .1) (h .headSound .oobOnce) (h .headFirst))
     kept k L₁ (takeEvent Central passKey earlier later answers o q u f) =
         terminal-event passKey earlier later answers q
-        (event-step opener L (L .head) d e (h .terminalInputs) (h .headInputs) 0 passKey earlier later answers signsNow
+        (event-step opener L (L .head) d e (h .terminalInputs) (h .headInputs) 0 passKey earlier later answers unusedNow
         o q
         refl f (h .inStep))
         (h .headFirst)
@@ -471,19 +471,19 @@ module _ (shared : Shared) (s : Start) where
     kept k L₁ (takeEvent Central encryptionOn earlier later answers o q u f) =
         terminal-event encryptionOn earlier later answers q
         (event-step opener L (L .head) d e (h .terminalInputs) (h .headInputs) 0 encryptionOn earlier later answers
-        signsNow
+        unusedNow
         o q refl f (h .inStep))
         (h .headFirst)
     kept k L₁ (takeEvent Peripheral passKey earlier later answers o q u f) =
         head-event passKey earlier later answers q
-        (event-step replier L (L .terminal) e d (h .headInputs) (h .terminalInputs) signsNow passKey earlier later
+        (event-step replier L (L .terminal) e d (h .headInputs) (h .terminalInputs) unusedNow passKey earlier later
         answers 0
         o q refl f head-in-step)
         (h .headFirst)
     kept k L₁ (takeEvent Peripheral oobData earlier later answers o q u f) = head-oob earlier later answers o q f
     kept k L₁ (takeEvent Peripheral encryptionOn earlier later answers o q u f) =
         head-event encryptionOn earlier later answers q
-        (event-step replier L (L .terminal) e d (h .headInputs) (h .terminalInputs) signsNow encryptionOn earlier later
+        (event-step replier L (L .terminal) e d (h .headInputs) (h .terminalInputs) unusedNow encryptionOn earlier later
         answers 0 o q refl f head-in-step)
         (h .headFirst)
     kept k L₁ (runAgain Central g answers x added o f) =
@@ -492,13 +492,13 @@ module _ (shared : Shared) (s : Start) where
         subst (λ y. HadBy y (L .terminal .hadOob)) o (h .terminalSound .hadBy) in
         let new = drop (length (callsAt shared Central L g answers))
         (callsAt shared Central L g (answers ++ (x ∷ added))) in
-        let z = again-step opener L (L .head) d e (h .terminalInputs) (h .headInputs) 0 signsNow g answers x added o f
+        let z = again-step opener L (L .head) d e (h .terminalInputs) (h .headInputs) 0 unusedNow g answers x added o f
         known
         (h .inStep) in
         recounted (h .terminalInputs + h .headInputs) n L₁ (h .total)
         (terminal-moved g (answers ++ (x ∷ added)) (L .terminal .queue) (L .terminal .due) new (h .terminalInputs)
         (subst (λ b. After opener L (L .head) d e (h .terminalInputs) (h .headInputs) 0 g (answers ++ (x ∷ added))
-        (L .terminal .queue) (L .terminal .due) new (h .terminalInputs) (signs b (L .head .hadOob)) 0) (sym had) z)
+        (L .terminal .queue) (L .terminal .due) new (h .terminalInputs) (unusedSignals b (L .head .hadOob)) 0) (sym had) z)
         known (h .terminalSound .queued) (rw had (h .terminalSound .oobOnce)) (rw had (h .headFirst)))
     kept k L₁ (runAgain Peripheral g answers x added o f) =
         let known = open-given (L .head) g answers (h .headSound) o in
@@ -506,13 +506,13 @@ module _ (shared : Shared) (s : Start) where
         subst (λ y. HadBy y (L .head .hadOob)) o (h .headSound .hadBy) in
         let new = drop (length (callsAt shared Peripheral L g answers))
         (callsAt shared Peripheral L g (answers ++ (x ∷ added))) in
-        let z = again-step replier L (L .terminal) e d (h .headInputs) (h .terminalInputs) signsNow 0 g answers x added
+        let z = again-step replier L (L .terminal) e d (h .headInputs) (h .terminalInputs) unusedNow 0 g answers x added
         o f
         known head-in-step in
         recounted (h .terminalInputs + h .headInputs) n L₁ (h .total)
         (head-moved g (answers ++ (x ∷ added)) (L .head .queue) (L .head .due) new (h .headInputs)
-        (subst (λ b. After replier L (L .terminal) e d (h .headInputs) (h .terminalInputs) signsNow g
-        (answers ++ (x ∷ added)) (L .head .queue) (L .head .due) new (h .headInputs) 0 (signs (L .terminal .hadOob) b))
+        (subst (λ b. After replier L (L .terminal) e d (h .headInputs) (h .terminalInputs) unusedNow g
+        (answers ++ (x ∷ added)) (L .head .queue) (L .head .due) new (h .headInputs) 0 (unusedSignals (L .terminal .hadOob) b))
         (sym had) z)
         known (h .headSound .queued) (rw had (h .headSound .oobOnce)) (rw had (h .headFirst)))
 
@@ -578,27 +578,27 @@ module _ (shared : Shared) (s : Start) where
           (no-answers shared (roleOf p) L (anEvent ε)),
     )
 
-  ungated : (p : Party) (L : Link) (ε : Due) → oobOf p ε ≡ false → MayTake L (roleOf p) ε
-  ungated opener L passKey u = tt
-  ungated opener L oobData u = absurd (true≢false u)
-  ungated opener L encryptionOn u = tt
-  ungated replier L ε u = tt
+  may-take-freely : (p : Party) (L : Link) (ε : Due) → heldBack p ε ≡ false → MayTake L (roleOf p) ε
+  may-take-freely opener L passKey u = tt
+  may-take-freely opener L oobData u = absurd (true≢false u)
+  may-take-freely opener L encryptionOn u = tt
+  may-take-freely replier L ε u = tt
 
   -- of the signals, the link has what the terminal may use
   abbrev Signed : Party → Link → ℕ → Type 0
-  Signed opener L n = n ≡ signs (L .terminal .hadOob) (L .head .hadOob)
+  Signed opener L n = n ≡ unusedSignals (L .terminal .hadOob) (L .head .hadOob)
   Signed replier L n = n ≡ 0
 
-  gated : (p : Party) (L : Link) (ε : Due) (n n₁ : ℕ) → Signed p L n → n ≡ suc n₁ → oobOf p ε ≡ true →
+  may-take-behind : (p : Party) (L : Link) (ε : Due) (n n₁ : ℕ) → Signed p L n → n ≡ suc n₁ → heldBack p ε ≡ true →
       MayTake L (roleOf p) ε
-  gated opener L passKey n n₁ h q u = tt
-  gated opener L oobData n n₁ h q u = go (L .terminal .hadOob) (L .head .hadOob) (sym h ∙ q)
+  may-take-behind opener L passKey n n₁ h q u = tt
+  may-take-behind opener L oobData n n₁ h q u = go (L .terminal .hadOob) (L .head .hadOob) (sym h ∙ q)
     where
-      go : (x y : Bool) → signs x y ≡ suc n₁ → y ≡ true
+      go : (x y : Bool) → unusedSignals x y ≡ suc n₁ → y ≡ true
       go x true q = refl
       go x false q = absurd (omega (arith, q))
-  gated opener L encryptionOn n n₁ h q u = tt
-  gated replier L ε n n₁ h q u = tt
+  may-take-behind opener L encryptionOn n n₁ h q u = tt
+  may-take-behind replier L ε n n₁ h q u = tt
 
   can-moves :
       (p : Party) (L : Link) (k n : ℕ) → Signed p L n →
@@ -609,15 +609,15 @@ module _ (shared : Shared) (s : Start) where
     takePacket (roleOf p) x w [] (idle-none (here p L .machine) m (here p L .openStep) e) q (rw v refl)
         (no-answers shared (roleOf p) L (aPacket x)),
   )
-  can-moves p L k n h (event-can m ε e v u) = event-moves p L m ε e v (ungated p L ε u)
-  can-moves p L k n h (behind-can m ε n₁ e v u q) = event-moves p L m ε e v (gated p L ε n n₁ h q u)
+  can-moves p L k n h (event-can m ε e v u) = event-moves p L m ε e v (may-take-freely p L ε u)
+  can-moves p L k n h (behind-can m ε n₁ e v u q) = event-moves p L m ε e v (may-take-behind p L ε n n₁ h q u)
   can-moves p L k n h (again-can m i answers e host w) =
       again-moves p L (here p L .openStep) refl (subst (OpenOf p L) (sym e) (host .0, host .1, w))
 
   -- both ends as sides, and that all is over there
   abbrev pub terminalSide : {d e n : ℕ} {L : Link} → LinkInStep d e n L → Side Ends Agrees
   terminalSide {L = L} h =
-      sideOf shared s (h .terminalInputs) (signs (L .terminal .hadOob) (L .head .hadOob)) (L .terminal)
+      sideOf shared s (h .terminalInputs) (unusedSignals (L .terminal .hadOob) (L .head .hadOob)) (L .terminal)
 
   abbrev pub headSide : {d e n : ℕ} {L : Link} → LinkInStep d e n L → Side Ends Agrees
   headSide {L = L} h = sideOf shared s (h .headInputs) 0 (L .head)
@@ -634,6 +634,6 @@ module _ (shared : Shared) (s : Start) where
           (Can Ends Agrees opener (terminalSide h)
           ⊎ Can Ends Agrees replier (headSide h)) ⊎ AllOver h → Moving L ⊎ AllOver h
       go (inl (inl c)) =
-          inl (can-moves opener L (h .terminalInputs) (signs (L .terminal .hadOob) (L .head .hadOob)) refl c)
+          inl (can-moves opener L (h .terminalInputs) (unusedSignals (L .terminal .hadOob) (L .head .hadOob)) refl c)
       go (inl (inr c)) = inl (can-moves replier L (h .headInputs) 0 refl c)
       go (inr o) = inr o

@@ -198,9 +198,9 @@ module _ (shared : Shared) (s : Start) where
   -- ---- from a fair start
 
   module _ (fair : FairStart s) where
-    fresh-ok : LinkInStep shared s 25 31 0 (freshLink s)
+    fresh-in-step : LinkInStep shared s 25 31 0 (freshLink s)
     unfolding freshLink
-    fresh-ok =
+    fresh-in-step =
         record {
           terminalInputs = 0;
           headInputs = 0;
@@ -216,7 +216,7 @@ module _ (shared : Shared) (s : Start) where
     module _ (moves inputs : ℕ) (L : Link) (x : Moves shared (freshLink s) moves inputs L) where
       in-step :
           (d₁ : ℕ) × (e₁ : ℕ) × (moves + (d₁ + e₁) ≤ 25 + 31) × LinkInStep shared s d₁ e₁ (0 + inputs) L
-      in-step = whole 25 31 0 x fresh-ok
+      in-step = whole 25 31 0 x fresh-in-step
 
       then-ends : Finishes (0 + inputs) L
       then-ends = finishes (in-step .0 + in-step .1) L (in-step .0) (in-step .1) (0 + inputs) (omega arith) (in-step .3)

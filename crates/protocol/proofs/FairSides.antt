@@ -109,10 +109,10 @@ module _ (shared : Shared) (s : Start) where
   actOf m (some o) = Act.busy m (o .given) (o .answers)
 
   -- with the inputs that it got, and the other end's signals not used
-  abbrev pub sideOf : (inputs signs : ℕ) → End → Side Ends Agrees
-  sideOf inputs signs e =
+  abbrev pub sideOf : (inputs unused : ℕ) → End → Side Ends Agrees
+  sideOf inputs unused e =
       side Ends Agrees (actOf (e .machine) (e .openStep))
-      (locally Ends (summary (e .calls)) (e .due) inputs) (e .queue) signs
+      (locally Ends (summary (e .calls)) (e .due) inputs) (e .queue) unused
 
   pub note-all :
       (cs before : List Call) (due : List Due) (n : ℕ) →

@@ -51,9 +51,9 @@ use Rattle.protocol.proofs.Exchange.{signalling, finished}
 use Rattle.protocol.proofs.Payloads.{some-word, word-in, features-in, identification-in, address-in}
 use Rattle.protocol.proofs.Payloads.{encryption-named, identity-named}
 use Rattle.protocol.proofs.FairReplies.{FairData}
-use Rattle.protocol.proofs.Pairing.{pairing, plus, headEntries, keysOf, Answer, SentKeys, HeadFollows, having}
-use Rattle.protocol.proofs.Pairing.{tkOf, chosen, both, preq, pres, confirmOf, Keeps, Due?, HeadDone}
-use Rattle.protocol.proofs.Pairing.{over, identityKey, terminalEncryption, terminalKeys, headKeys, afterSrand}
+use Rattle.protocol.proofs.Pairing.{pairing, plus, headEntries, inputsOfHead, Answer, SentKeys, HeadFollows, having}
+use Rattle.protocol.proofs.Pairing.{tkOf, chosen, both, preq, pres, confirmOf, Keeps, SentIfClaimed, HeadDone}
+use Rattle.protocol.proofs.Pairing.{ending, identityKey, terminalEncryption, terminalKeys, headKeys, afterSrand}
 use Rattle.protocol.proofs.Pairing.{afterSconfirm, afterMconfirm, confirms, afterResponse, afterRequest}
 use Rattle.protocol.proofs.Pairing.{wholeExchange}
 
@@ -86,17 +86,11 @@ module _ (shared : Shared) (s : Start) (a : Answer s) where
         «peer_address» = s .terminalAddress;
         «local_features» = a .features;
         «peer_features» = s .request;
-        «pairing_method» = chosen shared s a;
+        «pairing_method» = chosen s a;
         «bond_information» = bond;
       }
 
-  -- the inputs that the head gets in all, and the keys that it awaits among them
-  abbrev allInputs : ℕ
-  allInputs =
-      4 + (headEntries (chosen shared s a) + 2 * keysOf (both shared s a)
-      (namesEncryptionKey (a .features .«initiator_key_distribution»))
-      (namesIdentityKey (a .features .«initiator_key_distribution»)))
-
+  -- the keys that the head awaits
   abbrev keysAwaited : (encryption : Bool) → ℕ
   keysAwaited encryption =
       countNamed encryption + countNamed (namesIdentityKey (s .request .«initiator_key_distribution»))
@@ -115,15 +109,15 @@ module _ (shared : Shared) (s : Start) (a : Answer s) where
   -- ---- once encryption is called for
 
   module _ (e : Encryption) (typing oob : Bool) where
-    abbrev encrypting : List Due → ℕ → Local (pairing shared)
-    encrypting due n = having shared s typing oob true (e ∷ []) (a .features ∷ []) due n
+    abbrev encrypted : List Due → ℕ → Local (pairing shared)
+    encrypted due n = having shared typing oob true (e ∷ []) (a .features ∷ []) due n
 
     module _ (ends : excepted (s .request) (a .features) ≡ false) where
-      module _ (x : Option SentKeys) (due : Due? shared s a x) where
+      module _ (x : Option SentKeys) (due : SentIfClaimed s a x) where
         -- Success is entered, whichever address the peer has by now
         enters-success :
-            (d n : ℕ) (peer : Address) (b : BondInformation) → Keeps shared s a x b → n ≡ allInputs →
-            HeadFollows shared s (plus 3 d) (over shared s a e x due) (encrypting [] n)
+            (d n : ℕ) (peer : Address) (b : BondInformation) → Keeps s a x b → n ≡ inputsOfHead s a →
+            HeadFollows shared s (plus 3 d) (ending shared s a e x due) (encrypted [] n)
             (enter (enters phase.Success noConfirmData (withPeerAddress peer (headData (option.Some b)))))
         unfolding enter
         enters-success d n peer b k all = go (wantBonding (m .«pairing_data»))
@@ -131,7 +125,7 @@ module _ (shared : Shared) (s : Start) (a : Answer s) where
             m : Machine
             m = enters phase.Success noConfirmData (withPeerAddress peer (headData (option.Some b)))
 
-            done : HeadDone shared s a e x m (encrypting [] n)
+            done : HeadDone shared s a e x m (encrypted [] n)
             done =
                 record {
                   responds = refl;
@@ -142,16 +136,16 @@ module _ (shared : Shared) (s : Start) (a : Answer s) where
                 }
 
             go : (bonds : Bool) →
-                HeadFollows shared s (plus 3 d) (over shared s a e x due) (encrypting [] n) (enterBonded m b bonds)
+                HeadFollows shared s (plus 3 d) (ending shared s a e x due) (encrypted [] n) (enterBonded m b bonds)
             go true = quiet refl λ u. quiet refl λ v. finished done
             go false = quiet refl λ u. finished done
 
         -- the terminal's identity key is awaited, where it is named
         awaits-identity :
-            (d n : ℕ) (b : BondInformation) → Keeps shared s a x b →
-            (named : Bool) → n + 2 * countNamed named ≡ allInputs →
-            HeadFollows shared s (plus 5 d) (identityKey shared s a opener named (over shared s a e x due))
-            (encrypting [] n) (bind (awaitIdentityOrSucceed (headData (option.Some b)) named) entered)
+            (d n : ℕ) (b : BondInformation) → Keeps s a x b →
+            (named : Bool) → n + 2 * countNamed named ≡ inputsOfHead s a →
+            HeadFollows shared s (plus 5 d) (identityKey shared s a opener named (ending shared s a e x due))
+            (encrypted [] n) (bind (awaitIdentityOrSucceed (headData (option.Some b)) named) entered)
         unfolding awaitIdentityOrSucceed enter «handle_input» transition «handle_identity_information» withIrk
             «handle_identity_address_information» withIdentityAddress
         awaits-identity d n b k true all =
@@ -162,13 +156,13 @@ module _ (shared : Shared) (s : Start) (a : Answer s) where
 
         -- .. and before it the encryption key
         awaits-keys :
-            (d n : ℕ) (b : BondInformation) → Keeps shared s a x b →
-            (named : Bool) → n + 2 * keysAwaited named ≡ allInputs →
+            (d n : ℕ) (b : BondInformation) → Keeps s a x b →
+            (named : Bool) → n + 2 * keysAwaited named ≡ inputsOfHead s a →
             HeadFollows shared s (plus 7 d)
             (terminalEncryption shared s a named
             (identityKey shared s a opener (namesIdentityKey (s .request .«initiator_key_distribution»))
-            (over shared s a e x due)))
-            (encrypting [] n) (bind (awaitKeys (headData (option.Some b)) named) entered)
+            (ending shared s a e x due)))
+            (encrypted [] n) (bind (awaitKeys (headData (option.Some b)) named) entered)
         unfolding awaitKeys enter «handle_input» transition «handle_encryption_information»
             «handle_central_identification»
         awaits-keys d n b k true all =
@@ -179,11 +173,11 @@ module _ (shared : Shared) (s : Start) (a : Answer s) where
 
         -- before them the head's identity key is sent, where it is named
         sends-identity :
-            (d n : ℕ) (b : BondInformation) → Keeps shared s a x b →
-            n + 2 * keysAwaited (namesEncryptionKey (s .request .«initiator_key_distribution»)) ≡ allInputs →
+            (d n : ℕ) (b : BondInformation) → Keeps s a x b →
+            n + 2 * keysAwaited (namesEncryptionKey (s .request .«initiator_key_distribution»)) ≡ inputsOfHead s a →
             (named : Bool) →
             HeadFollows shared s (plus 11 d) (identityKey shared s a replier named (terminalKeys shared s a e x due))
-            (encrypting [] n) (bind (fromIdentity (headData (option.Some b)) named) entered)
+            (encrypted [] n) (bind (fromIdentity (headData (option.Some b)) named) entered)
         unfolding sendIdentityKey
         sends-identity d n b k all true =
             quiet refl λ irk. says irk refl λ u. quiet refl λ address. says address refl λ v. awaits-keys d n b k _ all
@@ -192,9 +186,9 @@ module _ (shared : Shared) (s : Start) (a : Answer s) where
       -- .. and first of all its encryption key
       sends-keys :
           (d n : ℕ) (b : BondInformation) →
-          n + 2 * keysAwaited (namesEncryptionKey (s .request .«initiator_key_distribution»)) ≡ allInputs →
+          n + 2 * keysAwaited (namesEncryptionKey (s .request .«initiator_key_distribution»)) ≡ inputsOfHead s a →
           (named : Bool) (p : namesEncryptionKey (a .features .«responder_key_distribution») ≡ named) →
-          HeadFollows shared s (plus 16 d) (headKeys shared s a e named p) (encrypting [] n)
+          HeadFollows shared s (plus 16 d) (headKeys shared s a e named p) (encrypted [] n)
           (bind (fromEncryption (headData (option.Some b)) named) entered)
       unfolding sendEncryptionKey withKeys negotiatedKeySize
       sends-keys d n b all true p =
@@ -205,9 +199,9 @@ module _ (shared : Shared) (s : Start) (a : Answer s) where
 
     -- where not both bond no key is sent: a head whose request names the identity key waits for it for ever
     sends-none :
-        (d n : ℕ) (b : BondInformation) (due : Due? shared s a none) → both shared s a ≡ false → n ≡ allInputs →
+        (d n : ℕ) (b : BondInformation) (due : SentIfClaimed s a none) → both s a ≡ false → n ≡ inputsOfHead s a →
         (named : Bool) → namesIdentityKey (s .request .«initiator_key_distribution») ≡ named →
-        HeadFollows shared s (plus 3 d) (over shared s a e none due) (encrypting [] n)
+        HeadFollows shared s (plus 3 d) (ending shared s a e none due) (encrypted [] n)
         (bind (awaitIdentityOrSucceed (headData (option.Some b)) named) entered)
     unfolding awaitIdentityOrSucceed enter
     sends-none d n b due p all true q =
@@ -223,9 +217,9 @@ module _ (shared : Shared) (s : Start) (a : Answer s) where
 
     -- the link is encrypted: the keys, where both bond
     sends-what-is-due :
-        (d n : ℕ) (b : BondInformation) → n ≡ 4 + headEntries (chosen shared s a) →
-        (bonds : Bool) (p : both shared s a ≡ bonds) →
-        HeadFollows shared s (plus 16 d) (afterSrand shared s a e bonds p) (encrypting [] n)
+        (d n : ℕ) (b : BondInformation) → n ≡ 4 + headEntries (chosen s a) →
+        (bonds : Bool) (p : both s a ≡ bonds) →
+        HeadFollows shared s (plus 16 d) (afterSrand shared s a e bonds p) (encrypted [] n)
         (bind (sendKeysOrAwaitIdentity (headData (option.Some b)) bonds) entered)
     unfolding sendKeysOrAwaitIdentity «send_all_keys»
     sends-what-is-due d n b all true p =
@@ -234,103 +228,103 @@ module _ (shared : Shared) (s : Start) (a : Answer s) where
 
     -- the report that it is encrypted comes before any packet
     takes-report :
-        (d n : ℕ) (b : BondInformation) → n ≡ 3 + headEntries (chosen shared s a) →
-        HeadFollows shared s (plus 17 d) (afterSrand shared s a e (both shared s a) refl)
-        (encrypting (encryptionOn ∷ []) n)
+        (d n : ℕ) (b : BondInformation) → n ≡ 3 + headEntries (chosen s a) →
+        HeadFollows shared s (plus 17 d) (afterSrand shared s a e (both s a) refl)
+        (encrypted (encryptionOn ∷ []) n)
         (ret (enters phase.WaitingLinkEncrypted noConfirmData (headData (option.Some b))))
     unfolding «handle_input» transition «handle_link_encrypted_success» wantBonding
     takes-report d n b all =
         urgently refl refl refl
         (subst
-        (λ bonds. HeadFollows shared s (plus 16 d) (afterSrand shared s a e (both shared s a) refl)
-        (encrypting [] (suc n)) (bind (sendKeysOrAwaitIdentity (headData (option.Some b)) bonds) entered))
+        (λ bonds. HeadFollows shared s (plus 16 d) (afterSrand shared s a e (both s a) refl)
+        (encrypted [] (suc n)) (bind (sendKeysOrAwaitIdentity (headData (option.Some b)) bonds) entered))
         (and-comm (wishes (s .request)) (wishes (a .features)))
         (sends-what-is-due d (suc n) b (omega arith) _ refl))
 
   -- ---- before that: confirm values and nonces
 
-  abbrev confirming : (typing oob : Bool) → List Due → ℕ → Local (pairing shared)
-  confirming typing oob due n = having shared s typing oob false [] (a .features ∷ []) due n
+  abbrev unencrypted : (typing oob : Bool) → List Due → ℕ → Local (pairing shared)
+  unencrypted typing oob due n = having shared typing oob false [] (a .features ∷ []) due n
 
   -- the confirm data with a temporary key
   abbrev keyed : Word128 → ConfirmPhaseData
-  keyed tk = confirmData tk (preq shared s a) (pres shared s a)
+  keyed tk = confirmData tk (preq s a) (pres s a)
 
   -- c1 as the head computes it is c1 as the protocol has it
   confirm-value :
       (srand r : Nonce) →
-      confirmValue (withNonce (keyed (tkOf shared s (chosen shared s a))) srand) (headData option.None) r
+      confirmValue (withNonce (keyed (tkOf shared (chosen s a))) srand) (headData option.None) r
       ≡ confirmOf shared s a r
   unfolding confirmValue
   confirm-value srand r = refl
 
   -- Mrand agrees with Mconfirm: Srand goes out, and encryption is called for
-  takes-random :
+  takes-mrand :
       (d n : ℕ) (typing oob : Bool) (mrand : FairData aNonce) (srand : Nonce) →
-      n ≡ 2 + headEntries (chosen shared s a) →
-      HeadFollows shared s (plus 20 d) (afterSconfirm shared s a (mrand .0) srand) (confirming typing oob [] n)
+      n ≡ 2 + headEntries (chosen s a) →
+      HeadFollows shared s (plus 20 d) (afterSconfirm shared s a (mrand .0) srand) (unencrypted typing oob [] n)
       (ret (enters (phase.WaitingPairingRandom (confirmOf shared s a (mrand .0)))
-      (withNonce (keyed (tkOf shared s (chosen shared s a))) srand) (headData option.None)))
+      (withNonce (keyed (tkOf shared (chosen s a))) srand) (headData option.None)))
   unfolding «handle_input» transition «handle_pairing_random» enableEncryption negotiatedKeySize enter
-  takes-random d n typing oob mrand srand all =
+  takes-mrand d n typing oob mrand srand all =
       takes λ u. rw (word-in (mrand .0 .0) (mrand .1), confirm-value srand (mrand .0), same-refl)
       (says tt refl λ v. quiet refl λ b. takes-report _ typing oob d (suc n) b (omega arith))
 
   -- Sconfirm goes out, where the temporary key is the method's
-  sends-confirm :
+  sends-sconfirm :
       (d n : ℕ) (typing oob : Bool) (mrand : FairData aNonce) (tk : Word128) →
-      n ≡ 2 + headEntries (chosen shared s a) → tkOf shared s (chosen shared s a) ≡ tk →
-      HeadFollows shared s (plus 22 d) (afterMconfirm shared s a mrand) (confirming typing oob [] n)
+      n ≡ 2 + headEntries (chosen s a) → tkOf shared (chosen s a) ≡ tk →
+      HeadFollows shared s (plus 22 d) (afterMconfirm shared s a mrand) (unencrypted typing oob [] n)
       (bind (answerConfirm (keyed tk) (headData option.None) (confirmOf shared s a (mrand .0))) entered)
   unfolding «send_sconfirm» confirmValue enter
-  sends-confirm d n typing oob mrand tk all e =
+  sends-sconfirm d n typing oob mrand tk all e =
       subst
-      (λ t. HeadFollows shared s (plus 22 d) (afterMconfirm shared s a mrand) (confirming typing oob [] n)
+      (λ t. HeadFollows shared s (plus 22 d) (afterMconfirm shared s a mrand) (unencrypted typing oob [] n)
       (bind (answerConfirm (keyed t) (headData option.None) (confirmOf shared s a (mrand .0))) entered))
       e
-      (quiet refl λ srand. says srand refl λ u. takes-random d n typing oob mrand (srand .0) all)
+      (quiet refl λ srand. says srand refl λ u. takes-mrand d n typing oob mrand (srand .0) all)
 
   -- a confirm value is read as it was sent
   confirm-in : (r : Nonce) → wordIn (octetsOf (confirmOf shared s a r .0)) ≡ some (confirmOf shared s a r .0)
   confirm-in r = word-in (confirmOf shared s a r .0) (c1-back _ r _ _ _ _ _ _)
 
   -- Mconfirm is answered at once, where the temporary key is there
-  takes-confirm :
-      (d n : ℕ) (typing oob : Bool) (tk : Word128) → n ≡ 1 + headEntries (chosen shared s a) →
-      tkOf shared s (chosen shared s a) ≡ tk →
-      HeadFollows shared s (plus 23 d) (confirms shared s a) (confirming typing oob [] n)
+  takes-mconfirm :
+      (d n : ℕ) (typing oob : Bool) (tk : Word128) → n ≡ 1 + headEntries (chosen s a) →
+      tkOf shared (chosen s a) ≡ tk →
+      HeadFollows shared s (plus 23 d) (confirms shared s a) (unencrypted typing oob [] n)
       (ret (enters phase.WaitingPairingConfirm (keyed tk) (headData option.None)))
   unfolding «handle_input» transition «handle_peer_confirm»
-  takes-confirm d n typing oob tk all e =
-      takes λ mrand. rw (confirm-in (mrand .0)) (sends-confirm d (suc n) typing oob mrand tk (omega arith) e)
+  takes-mconfirm d n typing oob tk all e =
+      takes λ mrand. rw (confirm-in (mrand .0)) (sends-sconfirm d (suc n) typing oob mrand tk (omega arith) e)
 
   -- the passkey is typed, before Mconfirm comes or after
   takes-passkey :
-      (d : ℕ) → headEntries (chosen shared s a) ≡ 1 →
-      tkOf shared s (chosen shared s a) ≡ passKeyTk (cond (shows (chosen shared s a)) (shared .shown) (shared .typed)) →
-      HeadFollows shared s (plus 24 d) (confirms shared s a) (confirming true false (passKey ∷ []) 1)
+      (d : ℕ) → headEntries (chosen s a) ≡ 1 →
+      tkOf shared (chosen s a) ≡ passKeyTk (cond (shows (chosen s a)) (shared .shown) (shared .typed)) →
+      HeadFollows shared s (plus 24 d) (confirms shared s a) (unencrypted true false (passKey ∷ []) 1)
       (ret (enters (phase.WaitingPassKeyInput stored.None) (keyed zeroWord) (headData option.None)))
   unfolding «handle_input» transition «handle_pass_key_input» «store_confirm_bytes» enter
   takes-passkey d one e =
-      either refl refl refl (takes-confirm d 2 true false _ (omega arith) e)
+      either refl refl refl (takes-mconfirm d 2 true false _ (omega arith) e)
       (λ mrand. rw (confirm-in (mrand .0))
-      (owing refl refl refl (sends-confirm d 3 true false mrand _ (omega arith) e)))
+      (owing refl refl refl (sends-sconfirm d 3 true false mrand _ (omega arith) e)))
 
   -- the method begins
   begins-method :
-      (d : ℕ) (m : PairingMethod) → chosen shared s a ≡ m →
-      HeadFollows shared s (plus 25 d) (afterResponse shared s a m) (confirming false false [] 1)
-      (bind (beginMethod (preq shared s a) (pres shared s a) (headData option.None) m) entered)
+      (d : ℕ) (m : PairingMethod) → chosen s a ≡ m →
+      HeadFollows shared s (plus 25 d) (afterResponse shared s a m) (unencrypted false false [] 1)
+      (bind (beginMethod (preq s a) (pres s a) (headData option.None) m) entered)
   unfolding beginMethod enter «handle_input» transition
-  begins-method d method.JustWorks e = takes-confirm (plus 2 d) 1 false false _ (rw e) (rw e)
+  begins-method d method.JustWorks e = takes-mconfirm (plus 2 d) 1 false false _ (rw e) (rw e)
   begins-method d method.NumericComparison e = absurd (never-numeric (s .request) (a .features) e)
   begins-method d (method.PassKeyEntry action.Display action.Display) e =
-      quiet refl λ u. quiet refl λ v. takes-confirm d 1 false false _ (rw e) (rw e)
+      quiet refl λ u. quiet refl λ v. takes-mconfirm d 1 false false _ (rw e) (rw e)
   begins-method d (method.PassKeyEntry action.Input action.Display) e =
-      quiet refl λ u. quiet refl λ v. takes-confirm d 1 false false _ (rw e) (rw e)
+      quiet refl λ u. quiet refl λ v. takes-mconfirm d 1 false false _ (rw e) (rw e)
   begins-method d (method.PassKeyEntry central action.Input) e = quiet refl λ u. takes-passkey d (rw e) (rw e)
   begins-method d method.OutOfBand e =
-      quiet refl λ u. signalling refl refl refl (takes-confirm d 2 false true _ (rw e) (rw e))
+      quiet refl λ u. signalling refl refl refl (takes-mconfirm d 2 false true _ (rw e) (rw e))
 
 -- ---- the request, and the answer to it
 
@@ -354,7 +348,7 @@ module _ (shared : Shared) (s : Start) (fair : FairStart s) where
     available ← asked question.OobAvailable
     let a = answerBy offered bonding available
     sendPacket (headData shared s a option.None) (packet.PairingResponse (a .features))
-    beginMethod (preq shared s a) (pres shared s a) (headData shared s a option.None) (chosen shared s a)
+    beginMethod (preq s a) (pres s a) (headData shared s a option.None) (chosen s a)
 
   -- .. before that, where the request names that key or not ..
   abbrev fromNamed : (named : Bool) → Handler Machine
@@ -369,7 +363,7 @@ module _ (shared : Shared) (s : Start) (fair : FairStart s) where
     fromNamed named
 
   abbrev requested : Local (pairing shared)
-  requested = having shared s false false false [] [] [] 1
+  requested = having shared false false false [] [] [] 1
 
   -- the response is sent
   sends-response :
@@ -396,7 +390,7 @@ module _ (shared : Shared) (s : Start) (fair : FairStart s) where
 -- the head follows the whole exchange, in fewer than 32 moves
 pub head-follows :
     (shared : Shared) (s : Start) (d : ℕ) → FairStart s →
-    HeadFollows shared s (plus 32 d) (wholeExchange shared s) (having shared s false false false [] [] [] 0)
+    HeadFollows shared s (plus 32 d) (wholeExchange shared s) (having shared false false false [] [] [] 0)
     (ret (freshHead s))
 unfolding freshHead newMachine «handle_input» transition «handle_pairing_request» answerBy
 head-follows shared s d fair =

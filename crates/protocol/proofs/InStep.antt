@@ -72,7 +72,7 @@ module _ (S : System) (Goal : S .Machine → exchange.Local S → S .Machine →
   abbrev pub Sync : Party → (to from : List Item) → (X Y : Protocol → Type 1) → Type 1
   Sync = exchange.Sync S Goal
 
-  abbrev pub Held : List Item → List Packet → (signs : ℕ) → Type 0
+  abbrev pub Held : List Item → List Packet → (unused : ℕ) → Type 0
   Held = exchange.Held S
 
   -- ---- packets and signals arrive
@@ -219,14 +219,14 @@ module _ (S : System) (Goal : S .Machine → exchange.Local S → S .Machine →
     pub act : Act
     pub state : Local
     pub queue : List Packet
-    pub signs : ℕ
+    pub unused : ℕ
 
   abbrev pub side : Act → Local → List Packet → ℕ → Side
-  side a l w n = record { act = a; state = l; queue = w; signs = n }
+  side a l w n = record { act = a; state = l; queue = w; unused = n }
 
   -- what another end's calls and signal do to it
   abbrev pub receives : List Call → Bool → Side → Side
-  receives cs b y = side (y .act) (y .state) (sendAll cs (y .queue)) (plusOne b (y .signs))
+  receives cs b y = side (y .act) (y .state) (sendAll cs (y .queue)) (plusOne b (y .unused))
 
   abbrev Holds : ℕ → Party → Protocol → Local → Act → Type 1
   Holds d r g l (idle m) = Idle (λ g₁ l₁ p. Fits d r g₁ l₁ p) r g l m (l .due)
@@ -240,7 +240,7 @@ module _ (S : System) (Goal : S .Machine → exchange.Local S → S .Machine →
   -- both ends, in step: with fewer than d and e moves of their own to go
   abbrev pub InStep : Party → (d e : ℕ) → (x y : Side) → Type 1
   InStep r d e x y =
-      (to : List Item) × (from : List Item) × Held to (x .queue) (x .signs) × Held from (y .queue) (y .signs)
+      (to : List Item) × (from : List Item) × Held to (x .queue) (x .unused) × Held from (y .queue) (y .unused)
       × Sync r to from (Standing d r x) (Standing e (other r) y)
 
   pub in-step-turned : (r : Party) (d e : ℕ) (x y : Side) → InStep r d e x y → InStep (other r) e d y x
@@ -273,7 +273,7 @@ module _ (S : System) (Goal : S .Machine → exchange.Local S → S .Machine →
       Hosts S → (r : Party) (d e : ℕ) (m : Machine) (i : Input) (s : List Octet) (cs : List Call) (l : Local)
       (w : List Packet) (n : ℕ) (y : Side) (b : Bool) (to : List Item) →
       Host (step r m i) s → Held to w n →
-      Comes d r (rest read s (step r m i) 0) cs l to (y .queue) (plusOne b (y .signs)) (Standing e (other r) y) →
+      Comes d r (rest read s (step r m i) 0) cs l to (y .queue) (plusOne b (y .unused)) (Standing e (other r) y) →
       Kept r d e (sideAfter r m i s cs l w n) (receives cs b y)
   closes H r d e m i s cs l w n y b to host held z =
       let stop = stops S s (step r m i) 0 (H .fair (step r m i) s host) in
@@ -320,7 +320,7 @@ module _ (S : System) (Goal : S .Machine → exchange.Local S → S .Machine →
           let got = deliver r (Fits d r) l m p w n (z .0) (z .1) There (z .2)
           (onward S Goal r (z .0) (z .1) (λ g h. idle-packets (Fits d r) r g l m (l .due) u h) (z .4)) in
           closes H r d e m (packet p) s (callsOf r m (packet p) s) l₁ w n y false (got .0) host (got .1)
-          (runs d r s (step r m (packet p)) 0 l₁ (got .0) (z .1) (y .queue) (y .signs) There
+          (runs d r s (step r m (packet p)) 0 l₁ (got .0) (z .1) (y .queue) (y .unused) There
           (H .fair (step r m (packet p)) s host) (z .3) (got .2))
 
       module _ (ε : Event) (earlier later : List Event) where
@@ -342,8 +342,8 @@ module _ (S : System) (Goal : S .Machine → exchange.Local S → S .Machine →
             subst (λ x. Takes S Goal x b r g (λ g₁. Fits d r g₁ l₁ p)) u
             (idle-event (Fits d r) r g l m (l .due) ε earlier later q h)) (z .4) in
             closes H r d e m (event ε) s taken l₁ w n y b (z .0) host (z .2)
-            (runs d r s p 0 l₁ (z .0) (z .1 ++ optional (signalItem S b)) (y .queue) (plusOne b (y .signs)) There
-            (H .fair p s host) (held-signal S b (z .1) (y .queue) (y .signs) (z .3))
+            (runs d r s p 0 l₁ (z .0) (z .1 ++ optional (signalItem S b)) (y .queue) (plusOne b (y .unused)) There
+            (H .fair p s host) (held-signal S b (z .1) (y .queue) (y .unused) (z .3))
             (emit S Goal r (signalItem S b) (z .0) (z .1) (λ g. Fits d r g l₁ p) There due))
 
         -- an event behind a signal of the other end
@@ -359,7 +359,7 @@ module _ (S : System) (Goal : S .Machine → exchange.Local S → S .Machine →
             (idle-event (Fits d r) r g l m (l .due) ε earlier later q h)) (z .4) in
             let used = use-signal r (λ g. Fits d r g l₁ p) There w n (z .0) (z .1) (z .2) due in
             closes H r d e m (event ε) s taken l₁ w n y false (used .0) host (used .1)
-            (runs d r s p 0 l₁ (used .0) (z .1) (y .queue) (y .signs) There (H .fair p s host) (z .3) (used .2))
+            (runs d r s p 0 l₁ (used .0) (z .1) (y .queue) (y .unused) There (H .fair p s host) (z .3) (used .2))
 
       -- an open step that is run again, on more answers
       pub again-kept :
@@ -379,13 +379,13 @@ module _ (S : System) (Goal : S .Machine → exchange.Local S → S .Machine →
           let longer : at < length s₂ = omega (arith, q .5, length-append s (x ∷ s₁)) in
           let stands = onward S Goal r (z .0) (z .1) {X₁ = λ g. Stands d r g l (ask (q .1) (q .2))} (λ g h.
           subst (λ t. Stands d r g l t) (q .4) (h .2)) (z .4) in
-          let on = runs-on (H .reads) d r s₂ (q .1) (q .2) at l (z .0) (z .1) (y .queue) (y .signs) There longer f
+          let on = runs-on (H .reads) d r s₂ (q .1) (q .2) at l (z .0) (z .1) (y .queue) (y .unused) There longer f
           (z .3) stands in
           let left = rest-again read (H .reads) s (x ∷ s₁) p 0 ∙ ap (λ t. rest read s₂ t at) (q .4) in
           let listed = again-new read (H .reads) s (x ∷ s₁) p 0 (held .1)
           ∙ ap (λ t. tail (play read s₂ t at .calls)) (q .4) in
           closes H r d e m i s₂ new l w n y false (z .0) host (z .2)
-          (subst₂ (λ t cs. Comes d r t cs l (z .0) (y .queue) (y .signs) There) (sym left) (sym listed) on)
+          (subst₂ (λ t cs. Comes d r t cs l (z .0) (y .queue) (y .unused) There) (sym left) (sym listed) on)
 
   -- ---- some move is allowed, or the protocol has finished
 
@@ -398,7 +398,7 @@ module _ (S : System) (Goal : S .Machine → exchange.Local S → S .Machine →
         (m : Machine) (ε : Event) → x .act ≡ idle m → x .state .due ≡ ε ∷ [] → gated r ε ≡ false → Can r x
     behind-can :
         (m : Machine) (ε : Event) (n : ℕ) → x .act ≡ idle m → x .state .due ≡ ε ∷ [] → gated r ε ≡ true →
-        x .signs ≡ suc n → Can r x
+        x .unused ≡ suc n → Can r x
     again-can :
         (m : Machine) (i : Input) (s : List Octet) → x .act ≡ busy m i s → Host (step r m i) s →
         play read s (step r m i) 0 .ending ≡ wanting → Can r x
@@ -413,7 +413,7 @@ module _ (S : System) (Goal : S .Machine → exchange.Local S → S .Machine →
     pub machine : Machine
     pub isIdle : x .act ≡ idle machine
     pub noPacket : x .queue ≡ []
-    pub noSign : x .signs ≡ 0
+    pub noSign : x .unused ≡ 0
     pub waits : Waits r (x .state .due)
 
   -- a packet is queued, and an event waits for a signal: no protocol has such a place
@@ -480,10 +480,10 @@ module _ (S : System) (Goal : S .Machine → exchange.Local S → S .Machine →
       never (somewhere S Goal r to from (λ g. Never) Y h .1)
 
   can-or-rests :
-      (r : Party) (d : ℕ) (x : Side) (to from : List Item) (Y : Protocol → Type 1) → Held to (x .queue) (x .signs) →
+      (r : Party) (d : ℕ) (x : Side) (to from : List Item) (Y : Protocol → Type 1) → Held to (x .queue) (x .unused) →
       Sync r to from (Standing d r x) Y → Can r x ⊎ Rests r x
   can-or-rests r d x to from Y held h =
-      moves r d (x .act) (x .state .log) (x .state .due) (x .state .inputs) (x .queue) (x .signs) to from Y held h
+      moves r d (x .act) (x .state .log) (x .state .due) (x .state .inputs) (x .queue) (x .unused) to from Y held h
 
   -- an end that rests is not the one whose turn S Goal it is, and has nothing due where the protocol finishes
   module _ (d : ℕ) (r : Party) (l : Local) (m : Machine) where

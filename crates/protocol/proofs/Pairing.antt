@@ -89,19 +89,20 @@ abbrev pub firstOf : List QueuedPacket → Option QueuedPacket
 firstOf [] = none
 firstOf (p ∷ l) = some p
 
--- the terminal's OOB data is taken behind the head's
 abbrev pub isOob : Due → Bool
 isOob passKey = false
 isOob oobData = true
 isOob encryptionOn = false
 
-abbrev pub oobOf : Party → Due → Bool
-oobOf opener e = isOob e
-oobOf replier e = false
+-- the terminal's OOB data is held back until the head has had its own
+abbrev pub heldBack : Party → Due → Bool
+heldBack opener e = isOob e
+heldBack replier e = false
 
-abbrev pub oobBefore : Party → Due → Bool
-oobBefore opener e = false
-oobBefore replier e = isOob e
+-- .. which then releases it
+abbrev pub releases : Party → Due → Bool
+releases opener e = false
+releases replier e = isOob e
 
 abbrev pub pairing : Shared → System
 pairing shared =
@@ -122,14 +123,14 @@ pairing shared =
       sent = λ c. firstOf (sentBy c);
       raised = raisedBy;
       urgent = reportDue;
-      gated = oobOf;
-      signals = oobBefore;
+      gated = heldBack;
+      signals = releases;
       Fair = λ c. FairData (replySort c);
       fairly = λ c. fairly shared (replySort c);
       Host = λ p s. AreOctets s × FairAnswers shared p s 0;
     }
 
--- d moves more, beside these
+-- d calls and inputs more, beside these: by clauses, so that it computes where d is not known
 abbrev pub plus : ℕ → ℕ → ℕ
 plus zero d = d
 plus (suc n) d = suc (plus n d)
@@ -159,16 +160,16 @@ abbrev pub keysOf : Bool → (encryption identity : Bool) → ℕ
 keysOf both encryption identity = cond both (countNamed encryption + countNamed identity) 0
 
 keys-of-both :
-    (request answer : PairingFeatures) (both : Bool) →
+    (answer : PairingFeatures) (both : Bool) →
     keysOf both (namesEncryptionKey (answer .«responder_key_distribution»))
     (namesIdentityKey (answer .«responder_key_distribution»))
     + keysOf both (namesEncryptionKey (answer .«initiator_key_distribution»))
     (namesIdentityKey (answer .«initiator_key_distribution»))
     ≡ cond both (keysNamed answer) 0
-keys-of-both request answer true = omega arith
-keys-of-both request answer false = refl
+keys-of-both answer true = omega arith
+keys-of-both answer false = refl
 
--- ---- the protocol
+-- ---- answers
 
 -- an answer to the request: of the initiator's keys it names those of the request, and its key size is allowed
 pub record Answer (s : Start) : Type 0 where
@@ -188,38 +189,69 @@ pub record SentKeys : Type 0 where
   pub ediv : ℕ
   pub rand : ℕ
 
+abbrev pub AreSent : Option SentKeys → Type 0
+AreSent none = ⊥
+AreSent (some x) = Unit {0}
+
 abbrev pub queued : Packet → QueuedPacket
 queued p = record { code = commandCode (packetCommand p); payload = packetBody p }
 
-module _ (shared : Shared) (s : Start) where
-  -- the goal: what the claim says of the end of a run, by what each end has to itself
-  pub record Agreed (m : Machine) (l : Local (pairing shared)) (m₁ : Machine) (l₁ : Local (pairing shared)) : Type 0
-    where
-      pub answer : PairingFeatures
-      pub answered : l₁ .log .responses ≡ answer ∷ []
-      pub counted :
-          l .inputs + l₁ .inputs ≡ 8 + entries (legacyMethod (s .request) answer) + 2 * keys (s .request) answer
-      pub encryption : Encryption
-      pub terminalEncrypts : l .log .encryptions ≡ encryption ∷ []
-      pub headEncrypts : l₁ .log .encryptions ≡ encryption ∷ []
-      pub terminalEnds : m .phase ≡ phase.Success
-      pub headEnds : HeadEnds (excepted (s .request) answer) m₁
-      pub sameBonds :
-          bothBond (s .request) answer ≡ true → namesEncryptionKey (answer .«responder_key_distribution») ≡ true →
-          SameBonds (negotiated (s .request) answer) m m₁
+-- ---- what request and answer fix
 
-  abbrev pub Exchange : Type 1
-  Exchange = Protocol (pairing shared) Agreed
+module _ (s : Start) (a : Answer s) where
+  abbrev pub request : PairingFeatures
+  request = s .request
 
-  abbrev pub sends : Party → (D : Type 0) → (D → Packet) → (D → Exchange) → Exchange
-  sends r D p K = Protocol.message r D (λ a. queued (p a)) K
+  abbrev pub answer : PairingFeatures
+  answer = a .features
 
-  abbrev pub TerminalFollows : ℕ → Exchange → Local (pairing shared) → Program (pairing shared) → Type 1
-  TerminalFollows d g l p = Follows (pairing shared) Agreed d opener g l p
+  abbrev pub chosen : PairingMethod
+  chosen = legacyMethod request answer
 
-  abbrev pub HeadFollows : ℕ → Exchange → Local (pairing shared) → Program (pairing shared) → Type 1
-  HeadFollows d g l p = Follows (pairing shared) Agreed d replier g l p
+  abbrev pub both : Bool
+  both = bothBond request answer
 
+  -- the inputs of each end: a response or a request, a Confirm, a Random and the report, entries, and two for each key
+  abbrev pub inputsOfTerminal : ℕ
+  inputsOfTerminal =
+      4 + (terminalEntries chosen + 2 * keysOf both
+      (namesEncryptionKey (answer .«responder_key_distribution»))
+      (namesIdentityKey (answer .«responder_key_distribution»)))
+
+  abbrev pub inputsOfHead : ℕ
+  inputsOfHead =
+      4 + (headEntries chosen + 2 * keysOf both
+      (namesEncryptionKey (answer .«initiator_key_distribution»))
+      (namesIdentityKey (answer .«initiator_key_distribution»)))
+
+  abbrev pub size : ℕ
+  size = negotiated request answer
+
+  abbrev pub preq : List ℕ
+  preq = commandOctets command.PairingRequest (featureOctets request)
+
+  abbrev pub pres : List ℕ
+  pres = commandOctets command.PairingResponse (featureOctets answer)
+
+  -- a bond has the responder's LTK, cut, EDIV and Rand, if they were sent
+  abbrev pub KeepsKeys : Option SentKeys → LongTermKey → (ediv rand : ℕ) → Type 0
+  KeepsKeys none ltk ediv rand = Unit {0}
+  KeepsKeys (some x) ltk ediv rand = (ltk ≡ maskedOf size (x .ltk)) × (ediv ≡ x .ediv) × (rand ≡ x .rand)
+
+  abbrev pub Keeps : Option SentKeys → BondInformation → Type 0
+  Keeps x b = KeepsKeys x (b .ltk) (b .ediv) (b .rand)
+
+  -- .. and a machine has such a bond
+  abbrev pub Stored : Option SentKeys → Machine → Type 0
+  Stored x m = (b : BondInformation) × (m .«pairing_data» .«bond_information» ≡ option.Some b) × Keeps x b
+
+  -- they are sent where the claim speaks of them
+  abbrev pub SentIfClaimed : Option SentKeys → Type 0
+  SentIfClaimed x = both ≡ true → namesEncryptionKey (answer .«responder_key_distribution») ≡ true → AreSent x
+
+-- ---- what the passkeys and OOB data fix
+
+module _ (shared : Shared) where
   -- an end's own state: what was listed, what is due, and the inputs that it got
   abbrev pub having : (typing oob report : Bool) → List Encryption → List PairingFeatures → List Due → ℕ →
       Local (pairing shared)
@@ -238,87 +270,71 @@ module _ (shared : Shared) (s : Start) where
       passKeyTk (cond (shows (method.PassKeyEntry central peripheral)) (shared .shown) (shared .typed))
   tkOf method.OutOfBand = shared .oob
 
-  -- .. once an answer is sent
+-- ---- the protocol, and its goal
+
+module _ (shared : Shared) (s : Start) where
+  -- the goal: what the claim says of the end of a run, by what each end has to itself
+  pub record Agreed (m : Machine) (l : Local (pairing shared)) (m₁ : Machine) (l₁ : Local (pairing shared)) : Type 0
+    where
+      pub answer : PairingFeatures
+      pub answered : l₁ .log .responses ≡ answer ∷ []
+      pub counted :
+          l .inputs + l₁ .inputs ≡ 8 + entries (legacyMethod (s .request) answer) + 2 * keys (s .request) answer
+      pub encryption : Encryption
+      pub terminalEncrypts : l .log .encryptions ≡ encryption ∷ []
+      pub headEncrypts : l₁ .log .encryptions ≡ encryption ∷ []
+      pub terminalEnds : m .phase ≡ phase.Success
+      pub headEnds : HeadEnds (excepted (s .request) answer) m₁
+      pub sameBonds :
+          bothBond (s .request) answer ≡ true → namesEncryptionKey (answer .«responder_key_distribution») ≡ true →
+          SameBonds (negotiated (s .request) answer) m m₁
+
+  abbrev pub PairingProtocol : Type 1
+  PairingProtocol = Protocol (pairing shared) Agreed
+
+  abbrev pub sends : Party → (D : Type 0) → (D → Packet) → (D → PairingProtocol) → PairingProtocol
+  sends r D p K = Protocol.message r D (λ a. queued (p a)) K
+
+  abbrev pub TerminalFollows : ℕ → PairingProtocol → Local (pairing shared) → Program (pairing shared) → Type 1
+  TerminalFollows d g l p = Follows (pairing shared) Agreed d opener g l p
+
+  abbrev pub HeadFollows : ℕ → PairingProtocol → Local (pairing shared) → Program (pairing shared) → Type 1
+  HeadFollows d g l p = Follows (pairing shared) Agreed d replier g l p
+
+  -- .. once an a .features is sent
   module _ (a : Answer s) where
-    abbrev pub request : PairingFeatures
-    request = s .request
-
-    abbrev pub answer : PairingFeatures
-    answer = a .features
-
-    abbrev pub chosen : PairingMethod
-    chosen = legacyMethod request answer
-
-    abbrev pub both : Bool
-    both = bothBond request answer
-
-    abbrev pub size : ℕ
-    size = negotiated request answer
-
-    abbrev pub preq : List ℕ
-    preq = commandOctets command.PairingRequest (featureOctets request)
-
-    abbrev pub pres : List ℕ
-    pres = commandOctets command.PairingResponse (featureOctets answer)
-
     -- c1 and the encryption that is called for, as both ends should compute them
     abbrev pub confirmOf : Nonce → Confirm
     confirmOf r =
-        c1Of (tkOf chosen) r preq pres
+        c1Of (tkOf shared (chosen s a)) r (preq s a) (pres s a)
         («addr_type_flag» (s .terminalAddress)) (bdAddrOctets (s .terminalAddress .addr))
         («addr_type_flag» (s .headAddress)) (bdAddrOctets (s .headAddress .addr))
 
     abbrev pub encryptionOf : (mrand srand : Nonce) → Encryption
     encryptionOf mrand srand =
-        record { key = maskedOf size (s1Of (tkOf chosen) srand mrand); level = securityLevel chosen }
-
-    -- a bond has the responder's LTK, cut, EDIV and Rand, if they were sent
-    abbrev pub KeepsKeys : Option SentKeys → LongTermKey → (ediv rand : ℕ) → Type 0
-    KeepsKeys none ltk ediv rand = Unit {0}
-    KeepsKeys (some x) ltk ediv rand = (ltk ≡ maskedOf size (x .ltk)) × (ediv ≡ x .ediv) × (rand ≡ x .rand)
-
-    abbrev pub Keeps : Option SentKeys → BondInformation → Type 0
-    Keeps x b = KeepsKeys x (b .ltk) (b .ediv) (b .rand)
-
-    -- .. and a machine has such a bond
-    abbrev pub Stored : Option SentKeys → Machine → Type 0
-    Stored x m = (b : BondInformation) × (m .«pairing_data» .«bond_information» ≡ option.Some b) × Keeps x b
-
-    abbrev pub AreSent : Option SentKeys → Type 0
-    AreSent none = ⊥
-    AreSent (some x) = Unit {0}
-
-    -- they are sent where the claim speaks of them
-    abbrev pub Due? : Option SentKeys → Type 0
-    Due? x = both ≡ true → namesEncryptionKey (answer .«responder_key_distribution») ≡ true → AreSent x
+        record { key = maskedOf (size s a) (s1Of (tkOf shared (chosen s a)) srand mrand); level = securityLevel (chosen s a) }
 
     -- how each end stands at last
     pub record TerminalDone (e : Encryption) (x : Option SentKeys) (m : Machine) (l : Local (pairing shared)) : Type 0
       where
         pub encrypts : l .log .encryptions ≡ e ∷ []
-        pub inputs :
-            l .inputs ≡ 4 + (terminalEntries chosen + 2 * keysOf both
-            (namesEncryptionKey (answer .«responder_key_distribution»))
-            (namesIdentityKey (answer .«responder_key_distribution»)))
+        pub inputs : l .inputs ≡ inputsOfTerminal s a
         pub ends : m .phase ≡ phase.Success
-        pub stored : Stored x m
+        pub stored : Stored s a x m
 
     pub record HeadDone (e : Encryption) (x : Option SentKeys) (m : Machine) (l : Local (pairing shared)) : Type 0 where
-      pub responds : l .log .responses ≡ answer ∷ []
+      pub responds : l .log .responses ≡ a .features ∷ []
       pub encrypts : l .log .encryptions ≡ e ∷ []
-      pub inputs :
-          l .inputs ≡ 4 + (headEntries chosen + 2 * keysOf both
-          (namesEncryptionKey (answer .«initiator_key_distribution»))
-          (namesIdentityKey (answer .«initiator_key_distribution»)))
-      pub ends : HeadEnds (excepted request answer) m
-      pub stored : Stored x m
+      pub inputs : l .inputs ≡ inputsOfHead s a
+      pub ends : HeadEnds (excepted (s .request) (a .features)) m
+      pub stored : Stored s a x m
 
     abbrev pub Done : Encryption → Option SentKeys → Party → Machine → Local (pairing shared) → Type 0
     Done e x opener m l = TerminalDone e x m l
     Done e x replier m l = HeadDone e x m l
 
     same-bonds :
-        (x : Option SentKeys) (m m₁ : Machine) → AreSent x → Stored x m → Stored x m₁ → SameBonds size m m₁
+        (x : Option SentKeys) (m m₁ : Machine) → AreSent x → Stored s a x m → Stored s a x m₁ → SameBonds (size s a) m m₁
     same-bonds none m m₁ h t u = absurd h
     same-bonds (some x) m m₁ h t u =
         record {
@@ -334,15 +350,15 @@ module _ (shared : Shared) (s : Start) where
         }
 
     pub agreed :
-        (e : Encryption) (x : Option SentKeys) → Due? x →
+        (e : Encryption) (x : Option SentKeys) → SentIfClaimed s a x →
         (m : Machine) (l : Local (pairing shared)) (m₁ : Machine) (l₁ : Local (pairing shared)) →
         Done e x opener m l → Done e x replier m₁ l₁ → Agreed m l m₁ l₁
     agreed e x due m l m₁ l₁ t h =
         record {
-          answer = answer;
+          answer = a .features;
           answered = h .responds;
           counted =
-              omega (arith, t .inputs, h .inputs, entries-of-both chosen, keys-of-both request answer both);
+              omega (arith, t .inputs, h .inputs, entries-of-both (chosen s a), keys-of-both (a .features) (both s a));
           encryption = e;
           terminalEncrypts = t .encrypts;
           headEncrypts = h .encrypts;
@@ -351,78 +367,78 @@ module _ (shared : Shared) (s : Start) where
           sameBonds = λ p q. same-bonds x m m₁ (due p q) (t .stored) (h .stored);
         }
 
-    abbrev pub over : (e : Encryption) (x : Option SentKeys) → Due? x → Exchange
-    over e x due = Protocol.finish (Done e x) (agreed e x due)
+    abbrev pub ending : (e : Encryption) (x : Option SentKeys) → SentIfClaimed s a x → PairingProtocol
+    ending e x due = Protocol.finish (Done e x) (agreed e x due)
 
     -- keys of one end, where they are named: LTK, then EDIV and Rand; IRK, then address
-    abbrev pub encryptionKey : Party → (SentKeys → Exchange) → Exchange
+    abbrev pub encryptionKey : Party → (SentKeys → PairingProtocol) → PairingProtocol
     encryptionKey r K =
         sends r (FairData anLtk) (λ k. packet.EncryptionInformation (k .0))
         (λ k. sends r (FairData anEdiv × FairData aRand) (λ x. packet.CentralIdentification (x .0 .0) (x .1 .0))
         (λ x. K (record { ltk = k .0; ediv = x .0 .0; rand = x .1 .0 })))
 
-    abbrev pub identityKey : Party → Bool → Exchange → Exchange
+    abbrev pub identityKey : Party → Bool → PairingProtocol → PairingProtocol
     identityKey r true g =
         sends r IdentityResolvingKey packet.IdentityInformation
         (λ k. sends r Address packet.IdentityAddressInformation (λ x. g))
     identityKey r false g = g
 
-    -- the terminal's keys, as the request names them
-    abbrev pub terminalEncryption : Bool → Exchange → Exchange
+    -- the terminal's keys, as the s .request names them
+    abbrev pub terminalEncryption : Bool → PairingProtocol → PairingProtocol
     terminalEncryption true g = encryptionKey opener (λ x. g)
     terminalEncryption false g = g
 
-    abbrev pub terminalKeys : (e : Encryption) (x : Option SentKeys) → Due? x → Exchange
+    abbrev pub terminalKeys : (e : Encryption) (x : Option SentKeys) → SentIfClaimed s a x → PairingProtocol
     terminalKeys e x due =
-        terminalEncryption (namesEncryptionKey (request .«initiator_key_distribution»))
-        (identityKey opener (namesIdentityKey (request .«initiator_key_distribution»))
-        (over e x due))
+        terminalEncryption (namesEncryptionKey (s .request .«initiator_key_distribution»))
+        (identityKey opener (namesIdentityKey (s .request .«initiator_key_distribution»))
+        (ending e x due))
 
-    -- the head's keys before them, as the answer names them
-    abbrev pub headIdentity : (e : Encryption) (x : Option SentKeys) → Due? x → Exchange
+    -- the head's keys before them, as the a .features names them
+    abbrev pub headIdentity : (e : Encryption) (x : Option SentKeys) → SentIfClaimed s a x → PairingProtocol
     headIdentity e x due =
-        identityKey replier (namesIdentityKey (answer .«responder_key_distribution»)) (terminalKeys e x due)
+        identityKey replier (namesIdentityKey (a .features .«responder_key_distribution»)) (terminalKeys e x due)
 
     abbrev pub headKeys :
-        Encryption → (named : Bool) → namesEncryptionKey (answer .«responder_key_distribution») ≡ named → Exchange
+        Encryption → (named : Bool) → namesEncryptionKey (a .features .«responder_key_distribution») ≡ named → PairingProtocol
     headKeys e true p = encryptionKey replier (λ x. headIdentity e (some x) (λ b q. tt))
     headKeys e false p = headIdentity e none (λ b q. absurd (true≢false (sym q ∙ p)))
 
     -- keys where both bond
-    abbrev pub afterSrand : Encryption → (bond : Bool) → both ≡ bond → Exchange
-    afterSrand e true p = headKeys e (namesEncryptionKey (answer .«responder_key_distribution»)) refl
-    afterSrand e false p = over e none (λ q r. absurd (true≢false (sym q ∙ p)))
+    abbrev pub afterSrand : Encryption → (bond : Bool) → both s a ≡ bond → PairingProtocol
+    afterSrand e true p = headKeys e (namesEncryptionKey (a .features .«responder_key_distribution»)) refl
+    afterSrand e false p = ending e none (λ q r. absurd (true≢false (sym q ∙ p)))
 
     -- Mconfirm, Sconfirm, Mrand, Srand
-    abbrev pub afterMrand : (mrand srand : Nonce) → Exchange
+    abbrev pub afterMrand : (mrand srand : Nonce) → PairingProtocol
     afterMrand mrand srand =
         sends replier (Unit {0}) (λ u. packet.PairingRandom srand)
-        (λ u. afterSrand (encryptionOf mrand srand) both refl)
+        (λ u. afterSrand (encryptionOf mrand srand) (both s a) refl)
 
-    abbrev pub afterSconfirm : (mrand srand : Nonce) → Exchange
+    abbrev pub afterSconfirm : (mrand srand : Nonce) → PairingProtocol
     afterSconfirm mrand srand =
         sends opener (Unit {0}) (λ u. packet.PairingRandom mrand) (λ u. afterMrand mrand srand)
 
-    abbrev pub afterMconfirm : FairData aNonce → Exchange
+    abbrev pub afterMconfirm : FairData aNonce → PairingProtocol
     afterMconfirm mrand =
         sends replier (FairData aNonce) (λ x. packet.PairingConfirm (confirmOf (x .0)))
         (λ x. afterSconfirm (mrand .0) (x .0))
 
-    abbrev pub confirms : Exchange
+    abbrev pub confirms : PairingProtocol
     confirms = sends opener (FairData aNonce) (λ x. packet.PairingConfirm (confirmOf (x .0))) afterMconfirm
 
     -- by the method: the head has its OOB data before the terminal
-    abbrev pub afterResponse : PairingMethod → Exchange
+    abbrev pub afterResponse : PairingMethod → PairingProtocol
     afterResponse method.JustWorks = confirms
     afterResponse method.NumericComparison = confirms
     afterResponse (method.PassKeyEntry central peripheral) = confirms
     afterResponse method.OutOfBand =
         Protocol.signal replier (FairData aNonce) (λ x. queued (packet.PairingConfirm (confirmOf (x .0)))) afterMconfirm
 
-  -- the request, and the response
-  abbrev pub afterRequest : Exchange
+  -- the s .request, and the response
+  abbrev pub afterRequest : PairingProtocol
   afterRequest =
-      sends replier (Answer s) (λ a. packet.PairingResponse (a .features)) (λ a. afterResponse a (chosen a))
+      sends replier (Answer s) (λ a. packet.PairingResponse (a .features)) (λ a. afterResponse a (chosen s a))
 
-  abbrev pub wholeExchange : Exchange
+  abbrev pub wholeExchange : PairingProtocol
   wholeExchange = Protocol.message opener (Unit {0}) (λ u. requestOf s) (λ u. afterRequest)

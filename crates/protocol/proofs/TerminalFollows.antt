@@ -43,9 +43,9 @@ use Rattle.protocol.proofs.Exchange.{quiet, says, takes, urgently, owin
 use Rattle.protocol.proofs.FairReplies.{FairData}
 use Rattle.protocol.proofs.Payloads.{some-word, word-in, features-in, identification-in, address-in}
 use Rattle.protocol.proofs.Payloads.{smaller-swapped}
-use Rattle.protocol.proofs.Pairing.{pairing, plus, terminalEntries, keysOf, Answer, SentKeys, TerminalFollows}
+use Rattle.protocol.proofs.Pairing.{pairing, plus, terminalEntries, inputsOfTerminal, Answer, SentKeys, TerminalFollows}
 use Rattle.protocol.proofs.Pairing.{having, tkOf, chosen, both, size, preq, pres, confirmOf, encryptionOf}
-use Rattle.protocol.proofs.Pairing.{Keeps, Due?, over, identityKey, terminalEncryption, terminalKeys, headKeys}
+use Rattle.protocol.proofs.Pairing.{Keeps, SentIfClaimed, ending, identityKey, terminalEncryption, terminalKeys, headKeys}
 use Rattle.protocol.proofs.Pairing.{afterSrand, afterMrand, afterMconfirm, confirms, afterResponse, afterRequest}
 
 -- ---- words
@@ -78,19 +78,16 @@ module _ (shared : Shared) (s : Start) (a : Answer s) where
   abbrev identityNamed : Bool
   identityNamed = namesIdentityKey (a .features .«responder_key_distribution»)
 
-  -- the terminal's inputs: those that its user or OOB gives it, and all
+  -- the terminal's inputs that its user or OOB gives it
   abbrev ownEntries : ℕ
-  ownEntries = terminalEntries (chosen shared s a)
-
-  abbrev allInputs : ℕ
-  allInputs = 4 + (ownEntries + 2 * keysOf (both shared s a) encryptionNamed identityNamed)
+  ownEntries = terminalEntries (chosen s a)
 
   -- its temporary key, and its data once the answer is there
   abbrev tk : Word128
-  tk = tkOf shared s (chosen shared s a)
+  tk = tkOf shared (chosen s a)
 
-  abbrev confirming : Nonce → ConfirmPhaseData
-  confirming mrand = withNonce (confirmData tk (preq shared s a) (pres shared s a)) mrand
+  abbrev keyed : Nonce → ConfirmPhaseData
+  keyed mrand = withNonce (confirmData tk (preq s a) (pres s a)) mrand
 
   abbrev answeredBy : Address → OptionBond → PairingData
   answeredBy peer bond =
@@ -99,7 +96,7 @@ module _ (shared : Shared) (s : Start) (a : Answer s) where
         «peer_address» = peer;
         «local_features» = s .request;
         «peer_features» = a .features;
-        «pairing_method» = chosen shared s a;
+        «pairing_method» = chosen s a;
         «bond_information» = bond;
       }
 
@@ -111,18 +108,18 @@ module _ (shared : Shared) (s : Start) (a : Answer s) where
 
   -- the key size, as the terminal computes it
   same-size :
-      smaller (a .features .«maximum_encryption_key_size») (s .request .«maximum_encryption_key_size») ≡ size shared s a
+      smaller (a .features .«maximum_encryption_key_size») (s .request .«maximum_encryption_key_size») ≡ size s a
   same-size = smaller-swapped (a .features .«maximum_encryption_key_size») (s .request .«maximum_encryption_key_size»)
 
   -- ---- the stages with encryption on
   module _ (typing oob : Bool) (e : Encryption) where
     abbrev encrypted : ℕ → Local (pairing shared)
-    encrypted n = having shared s typing oob true (e ∷ []) [] [] n
+    encrypted n = having shared typing oob true (e ∷ []) [] [] n
 
     -- .. and no input to come
     module _
-        (x : Option SentKeys) (due : Due? shared s a x) (n : ℕ) (all : n ≡ allInputs)
-        (peer : Address) (b : BondInformation) (k : Keeps shared s a x b) where
+        (x : Option SentKeys) (due : SentIfClaimed s a x) (n : ℕ) (all : n ≡ inputsOfTerminal s a)
+        (peer : Address) (b : BondInformation) (k : Keeps s a x b) where
       abbrev atLast : PairingData
       atLast = answeredBy peer (option.Some b)
 
@@ -130,24 +127,24 @@ module _ (shared : Shared) (s : Start) (a : Answer s) where
       success = enters phase.Success noConfirmData atLast
 
       -- all is done
-      stays : (d : ℕ) → TerminalFollows shared s (plus 1 d) (over shared s a e x due) (encrypted n) (ret success)
+      stays : (d : ℕ) → TerminalFollows shared s (plus 1 d) (ending shared s a e x due) (encrypted n) (ret success)
       stays d =
           finished (record { encrypts = refl; inputs = all; ends = refl; stored = (b, refl, k) })
 
       -- Success is entered
-      succeeds : (d : ℕ) → TerminalFollows shared s (plus 3 d) (over shared s a e x due) (encrypted n) (enter success)
+      succeeds : (d : ℕ) → TerminalFollows shared s (plus 3 d) (ending shared s a e x due) (encrypted n) (enter success)
       unfolding enter
       succeeds d = go (wantBonding atLast)
         where
           go : (bonds : Bool) →
-              TerminalFollows shared s (plus 3 d) (over shared s a e x due) (encrypted n) (enterBonded success b bonds)
+              TerminalFollows shared s (plus 3 d) (ending shared s a e x due) (encrypted n) (enterBonded success b bonds)
           go true = quiet refl λ u. quiet refl λ v. stays d
           go false = quiet refl λ u. stays (plus 1 d)
 
       -- the terminal's identity key is sent, where it is named
       sends-identity :
           (d : ℕ) (identity : Bool) →
-          TerminalFollows shared s (plus 7 d) (identityKey shared s a opener identity (over shared s a e x due))
+          TerminalFollows shared s (plus 7 d) (identityKey shared s a opener identity (ending shared s a e x due))
           (encrypted n) (bind (sendingIdentity atLast identity) entered)
       unfolding sendIdentityKey
       sends-identity d true =
@@ -158,7 +155,7 @@ module _ (shared : Shared) (s : Start) (a : Answer s) where
       sends-keys :
           (d : ℕ) (encryption identity : Bool) →
           TerminalFollows shared s (plus 12 d)
-          (terminalEncryption shared s a encryption (identityKey shared s a opener identity (over shared s a e x due)))
+          (terminalEncryption shared s a encryption (identityKey shared s a opener identity (ending shared s a e x due)))
           (encrypted n) (bind (sendingKeys atLast encryption identity) entered)
       unfolding sendEncryptionKey
       sends-keys d true identity =
@@ -175,8 +172,8 @@ module _ (shared : Shared) (s : Start) (a : Answer s) where
 
     -- the head's identity key is taken before them, where it is named
     takes-identity :
-        (d n : ℕ) (x : Option SentKeys) (due : Due? shared s a x) (b : BondInformation) →
-        both shared s a ≡ true → Keeps shared s a x b → (identity : Bool) → n + 2 * countNamed identity ≡ allInputs →
+        (d n : ℕ) (x : Option SentKeys) (due : SentIfClaimed s a x) (b : BondInformation) →
+        both s a ≡ true → Keeps s a x b → (identity : Bool) → n + 2 * countNamed identity ≡ inputsOfTerminal s a →
         TerminalFollows shared s (plus 14 d) (identityKey shared s a replier identity (terminalKeys shared s a e x due))
         (encrypted n) (bind (awaitIdentityOrSend (bonded b) identity) entered)
     unfolding awaitIdentityOrSend enter «handle_input» transition «handle_identity_information» withIrk
@@ -188,7 +185,7 @@ module _ (shared : Shared) (s : Start) (a : Answer s) where
 
     -- .. and before it the encryption key
     takes-keys :
-        (d n : ℕ) (b : BondInformation) → both shared s a ≡ true → n ≡ 4 + ownEntries →
+        (d n : ℕ) (b : BondInformation) → both s a ≡ true → n ≡ 4 + ownEntries →
         (encryption : Bool) (q : encryptionNamed ≡ encryption) →
         TerminalFollows shared s (plus 16 d) (headKeys shared s a e encryption q) (encrypted n)
         (bind (awaitKeys (bonded b) encryption) entered)
@@ -203,7 +200,7 @@ module _ (shared : Shared) (s : Start) (a : Answer s) where
 
     -- keys are exchanged where both bond
     takes-keys-or-succeeds :
-        (d n : ℕ) (b : BondInformation) → n ≡ 4 + ownEntries → (bonds : Bool) (p : both shared s a ≡ bonds) →
+        (d n : ℕ) (b : BondInformation) → n ≡ 4 + ownEntries → (bonds : Bool) (p : both s a ≡ bonds) →
         TerminalFollows shared s (plus 16 d) (afterSrand shared s a e bonds p) (encrypted n)
         (bind (awaitKeysOrSucceed (bonded b) bonds) entered)
     takes-keys-or-succeeds d n b c true p = takes-keys d n b p c encryptionNamed refl
@@ -212,20 +209,20 @@ module _ (shared : Shared) (s : Start) (a : Answer s) where
     -- the report that encryption is on
     takes-report :
         (d n : ℕ) (b : BondInformation) → n ≡ 3 + ownEntries →
-        TerminalFollows shared s (plus 17 d) (afterSrand shared s a e (both shared s a) refl)
-        (having shared s typing oob true (e ∷ []) [] (encryptionOn ∷ []) n)
+        TerminalFollows shared s (plus 17 d) (afterSrand shared s a e (both s a) refl)
+        (having shared typing oob true (e ∷ []) [] (encryptionOn ∷ []) n)
         (ret (enters phase.WaitingLinkEncrypted noConfirmData (bonded b)))
     unfolding «handle_input» transition «handle_link_encrypted_success» wantBonding
     takes-report d n b c =
-        urgently refl refl refl (takes-keys-or-succeeds d (suc n) b (omega arith) (both shared s a) refl)
+        urgently refl refl refl (takes-keys-or-succeeds d (suc n) b (omega arith) (both s a) refl)
 
   -- ---- the stages before
   module _ (typing oob : Bool) where
     abbrev unencrypted : ℕ → Local (pairing shared)
-    unencrypted n = having shared s typing oob false [] [] [] n
+    unencrypted n = having shared typing oob false [] [] [] n
 
     -- c1 as the terminal computes it is c1 as the protocol has it
-    confirm-value : (mrand r : Nonce) → confirmValue (confirming mrand) unbonded r ≡ confirmOf shared s a r
+    confirm-value : (mrand r : Nonce) → confirmValue (keyed mrand) unbonded r ≡ confirmOf shared s a r
     unfolding confirmValue
     confirm-value mrand r = refl
 
@@ -233,7 +230,7 @@ module _ (shared : Shared) (s : Start) (a : Answer s) where
     takes-srand :
         (d n : ℕ) (mrand : Nonce) (srand : FairData aNonce) → n ≡ 2 + ownEntries →
         TerminalFollows shared s (plus 19 d) (afterMrand shared s a mrand (srand .0)) (unencrypted n)
-        (ret (enters (phase.WaitingPairingRandom (confirmOf shared s a (srand .0))) (confirming mrand) unbonded))
+        (ret (enters (phase.WaitingPairingRandom (confirmOf shared s a (srand .0))) (keyed mrand) unbonded))
     unfolding «handle_input» transition «handle_pairing_random» enableEncryption negotiatedKeySize enter
     takes-srand d n mrand srand c =
         takes λ u. rw (word-in (srand .0 .0) (srand .1), confirm-value mrand (srand .0), same-refl, same-size)
@@ -244,7 +241,7 @@ module _ (shared : Shared) (s : Start) (a : Answer s) where
     takes-sconfirm :
         (d n : ℕ) (mrand : FairData aNonce) → n ≡ 1 + ownEntries →
         TerminalFollows shared s (plus 21 d) (afterMconfirm shared s a mrand) (unencrypted n)
-        (ret (enters phase.WaitingPairingConfirm (confirming (mrand .0)) unbonded))
+        (ret (enters phase.WaitingPairingConfirm (keyed (mrand .0)) unbonded))
     unfolding «handle_input» transition «handle_peer_confirm» «send_mrand» enter
     takes-sconfirm d n mrand c =
         takes λ srand. rw (word-in (confirmOf shared s a (srand .0) .0) (c1-back _ _ _ _ _ _ _ _))
@@ -254,15 +251,15 @@ module _ (shared : Shared) (s : Start) (a : Answer s) where
     sends-mconfirm :
         (d n : ℕ) (t : Word128) → t ≡ tk → n ≡ 1 + ownEntries →
         TerminalFollows shared s (plus 23 d) (confirms shared s a) (unencrypted n)
-        (bind (beginConfirm (preq shared s a) (pres shared s a) unbonded t) entered)
+        (bind (beginConfirm (preq s a) (pres s a) unbonded t) entered)
     unfolding beginConfirm «send_mconfirm» confirmValue enter
     sends-mconfirm d n t e c = rw e (quiet refl λ mrand. says mrand refl λ u. takes-sconfirm d n mrand c)
 
   -- the method that was chosen begins: passkey and OOB data are entries
   begins-method :
-      (d : ℕ) (way : PairingMethod) → chosen shared s a ≡ way →
-      TerminalFollows shared s (plus 25 d) (afterResponse shared s a way) (having shared s false false false [] [] [] 1)
-      (bind (beginMethod (preq shared s a) (pres shared s a) unbonded way) entered)
+      (d : ℕ) (way : PairingMethod) → chosen s a ≡ way →
+      TerminalFollows shared s (plus 25 d) (afterResponse shared s a way) (having shared false false false [] [] [] 1)
+      (bind (beginMethod (preq s a) (pres s a) unbonded way) entered)
   unfolding beginMethod enter «handle_input» transition «handle_pass_key_input» beginConfirm
   begins-method d method.JustWorks e = sends-mconfirm false false (plus 2 d) 1 _ (rw e) (rw e)
   begins-method d method.NumericComparison e = absurd (never-numeric (s .request) (a .features) e)
@@ -276,9 +273,9 @@ module _ (shared : Shared) (s : Start) (a : Answer s) where
 -- ---- from the request on, with the response first
 pub terminal-follows :
     (shared : Shared) (s : Start) (d : ℕ) →
-    TerminalFollows shared s (plus 26 d) (afterRequest shared s) (having shared s false false false [] [] [] 0)
+    TerminalFollows shared s (plus 26 d) (afterRequest shared s) (having shared false false false [] [] [] 0)
     (ret (freshTerminal s))
 unfolding freshTerminal lescSwitch «handle_input» transition «handle_pairing_response»
 terminal-follows shared s d =
     takes λ a. rw (features-in (a .features) (a .sizeLeast) (a .sizeLargest))
-    (begins-method shared s a d (chosen shared s a) refl)
+    (begins-method shared s a d (chosen s a) refl)
