@@ -1,12 +1,13 @@
 -- What the fair link allows, so that nothing is true of fair runs for want of them: there are fair starts at the ends of
--- every range, hosts that answer nothing, free answers, packets that come while a passkey is typed or OOB data is due, and
--- events that are taken as soon as they are due. Assumes nothing.
+-- every range, any passkeys and OOB data, hosts that answer nothing, free answers, packets that come while a passkey is
+-- typed or OOB data is due, and events that are taken as soon as they are due. Assumes nothing.
 use mathlib.Core.Path.{_≡_, refl}
 use mathlib.Core.Bool.{Bool, true}
 use mathlib.Core.List.{List, [], _∷_}
 use mathlib.Core.Option.{none}
-use Prim.Native.Nat.{ℕ}
+use Prim.Native.Nat.{ℕ, _≤_}
 use lib.Dec.{lit≤}
+use Rattle.octets.specs.declared.Word128.{Word128}
 use Rattle.crypto.specs.declared.crypto.IdentityResolvingKey.{IdentityResolvingKey}
 use Rattle.crypto.specs.declared.crypto.LongTermKey.{LongTermKey}
 use Rattle.crypto.specs.declared.crypto.Nonce.{Nonce}
@@ -16,6 +17,7 @@ use Rattle.types.specs.declared.types.UseOutOfBand.the-variants.{NotPresent, Pr
 use Rattle.bond.specs.declared.Address.{Address}
 use Rattle.bond.specs.declared.BondInformation.{BondInformation}
 use Rattle.bond.specs.declared.OptionBond.{OptionBond}
+use Rattle.answer.specs.Answers.{passKeyMax}
 use Rattle.answer.specs.declared.AddressResult.the-variants as address-result
 use Rattle.answer.specs.declared.BondResult.the-variants as bond-result
 use Rattle.answer.specs.declared.OptionBondResult.the-variants as option-result
@@ -51,6 +53,12 @@ full-start a b =
       headSizeLargest = lit≤ tt;
       headFlags = record { encryption = λ h. refl; identity = λ h. refl };
     }
+
+-- ---- passkeys and OOB data
+
+-- whatever is typed or received, and whatever may be shown
+pub any-shared : (oob : Word128) (shown typed : ℕ) → shown ≤ passKeyMax → Shared
+any-shared oob shown typed most = record { oob = oob; shown = shown; typed = typed; shownMost = most }
 
 -- ---- hosts
 

@@ -1,11 +1,11 @@
--- Runs of 8 and of 18 inputs, and one of the excepted case, so that nothing is true of runs for want of them. Each is a
--- run of the link from a fair start, whatever the passkeys and OOB data. Assumes nothing.
+-- Runs of 8 and of 18 inputs, and one of the excepted case, so that nothing is true of runs for want of them: the last
+-- three laws. Such runs there are whatever the passkeys, the OOB data and the addresses. Assumes nothing.
 use Prim.Native.Nat.{ℕ, suc, _+_, _*_}
 use mathlib.Core.Path.{_≡_, refl, sym, ap, _∙_, subst}
 use mathlib.Core.Bool.{Bool, true, false, cond, not, _&&_, and-eq-true-iff}
 use mathlib.Core.List.{List, [], _∷_, _++_, append-nil, append-assoc}
 use native.Mathlib.Omega.{arith}
-use lib.Dec.{ltb}
+use lib.Dec.{ltb, lit≤}
 use lib.ListN.{replicate}
 use borrow.Author.Tests.{ltb-true}
 use Rattle.octets.specs.Octets.{wordOf, sameWord}
@@ -27,6 +27,7 @@ use Rattle.protocol.specs.LegacyPeripheral.{initiatorKeys, responderKeys
 use Rattle.protocol.specs.Step.{playOf, step}
 use Rattle.protocol.specs.FairLink.{Start, AreOctets, NamesNoMore, FairStart, Shared, Link, freshHead, requestOf, freshLink, stepAt, callsAt, anInput, Move, takePacket, takeEvent, runAgain, Moves, noMove, move, Run}
 use Rattle.protocol.specs.FairRuns.{entries, keys, responseIn, responsesIn, WaitsForIdentityKey}
+use Rattle.protocol.proofs.Allowed.{any-shared}
 use Rattle.protocol.proofs.FairSides.{of-all-append}
 use Rattle.protocol.proofs.FairRunsEnd.{every-fair-run-ends}
 
@@ -73,7 +74,7 @@ plain-fair : (a b : Address) → FairStart (startOf a b plain plain)
 plain-fair a b =
     fair-start a b plain plain refl refl refl refl (record { encryption = λ h. h; identity = λ h. h })
 
--- ---- every list of moves goes on to a run
+-- ---- every list of moves goes on to a run; none is one too
 
 abbrev RunFrom : Shared → Start → Type 0
 RunFrom shared s = (moves : ℕ) × (inputs : ℕ) × (L : Link) × Run shared (freshLink s) moves inputs L
@@ -85,6 +86,7 @@ some-run shared s fair =
 
 -- ---- 8 inputs: without input, output, bonding and keys
 
+-- whatever is answered, nobody types
 plain-method : (answer : PairingFeatures) → entries (legacyMethod plain answer) ≡ 0
 unfolding legacyMethod
 plain-method answer = go (wantsMitm answer) (answer .«io_capabilities»)
@@ -98,10 +100,10 @@ plain-method answer = go (wantsMitm answer) (answer .«io_capabilities»)
     go true io.NoInputNoOutput = refl
     go true io.KeyboardDisplay = refl
 
-pub shortest :
+shortest-of :
     (shared : Shared) (a b : Address) →
     (moves : ℕ) × (L : Link) × Run shared (freshLink (startOf a b plain plain)) moves 8 L
-shortest shared a b =
+shortest-of shared a b =
     let s = startOf a b plain plain in
     let z = some-run shared s (plain-fair a b) in
     let ends = every-fair-run-ends s (plain-fair a b) .1 shared .comesTo (z .0) (z .1) (z .2) (z .3) in
@@ -117,11 +119,11 @@ identity-fair : (a b : Address) → FairStart (startOf a b namingIdentity plain)
 identity-fair a b =
     fair-start a b namingIdentity plain refl refl refl refl (record { encryption = λ h. h; identity = λ h. refl })
 
-pub head-left-waiting :
+left-waiting-of :
     (shared : Shared) (a b : Address) →
     (moves : ℕ) × (inputs : ℕ) × (L : Link) × Run shared (freshLink (startOf a b namingIdentity plain)) moves inputs L
     × (L .terminal .machine .phase ≡ phase.Success) × WaitsForIdentityKey (L .head .machine)
-head-left-waiting shared a b =
+left-waiting-of shared a b =
     let s = startOf a b namingIdentity plain in
     let z = some-run shared s (identity-fair a b) in
     let ends = every-fair-run-ends s (identity-fair a b) .1 shared .comesTo (z .0) (z .1) (z .2) (z .3) in
@@ -193,10 +195,10 @@ eighteen-counted :
 unfolding legacyMethod
 eighteen-counted answer n q e = e ∙ ap (λ x. 8 + entries (legacyMethod full x) + 2 * keys full x) q
 
-pub longest-run :
+longest-of :
     (shared : Shared) (a b : Address) →
     (moves : ℕ) × (L : Link) × Run shared (freshLink (startOf a b full full)) moves 18 L
-longest-run shared a b =
+longest-of shared a b =
     let s = startOf a b full full in
     let all-end = every-fair-run-ends s (full-fair a b) .1 shared in
     let first = first-step shared a b in
@@ -208,3 +210,31 @@ longest-run shared a b =
     let is-full = full-answer (first .0) (z .2) (grown .0) (ends .answer) (first .2) (grown .1) (ends .answered) in
     let eighteen = eighteen-counted (ends .answer) (suc (z .1)) is-full (ends .counted) in
     (suc (z .0), z .2, subst (λ n. Run shared (freshLink s) (suc (z .0)) n (z .2)) eighteen run)
+
+-- ---- the three, with passkeys, OOB data and addresses given
+
+abbrev someShared : Shared
+someShared = any-shared (record { low = 0x0123456789ABCDEF; high = 0xFEDCBA9876543210 }) 123456 4000000000 (lit≤ tt)
+
+abbrev terminalAt : Address
+terminalAt = record { kind = 0; addr = record { low = 0xA1A2A3A4; high = 0xA5A6 } }
+
+abbrev headAt : Address
+headAt = record { kind = 1; addr = record { low = 0xB1B2B3B4; high = 0xB5B6 } }
+
+-- 8 inputs
+pub shortest :
+    (moves : ℕ) × (L : Link) × Run someShared (freshLink (startOf terminalAt headAt plain plain)) moves 8 L
+shortest = shortest-of someShared terminalAt headAt
+
+-- 18 inputs
+pub longest-run :
+    (moves : ℕ) × (L : Link) × Run someShared (freshLink (startOf terminalAt headAt full full)) moves 18 L
+longest-run = longest-of someShared terminalAt headAt
+
+-- the excepted case: the terminal has finished, and the head waits for a key that nobody sends
+pub head-left-waiting :
+    (moves : ℕ) × (inputs : ℕ) × (L : Link)
+    × Run someShared (freshLink (startOf terminalAt headAt namingIdentity plain)) moves inputs L
+    × (L .terminal .machine .phase ≡ phase.Success) × WaitsForIdentityKey (L .head .machine)
+head-left-waiting = left-waiting-of someShared terminalAt headAt

@@ -19,6 +19,7 @@ use Rattle.protocol.specs.Handlers.{namesEncryptionKey, namesIdentityKey
 use Rattle.protocol.specs.FairLink.{Start, FairStart, Shared, Link, endOf, freshLink, MoveKind, anInput, aReRun, Move, takePacket, takeEvent, runAgain, countInput, Moves, noMove, move, Run, Idle}
 use Rattle.protocol.specs.FairRuns.{typesAs, entries, bothBond, countNamed, keysNamed, keys, RunEnds, EveryFairRunEnds}
 use Rattle.protocol.proofs.Codes.{code-known}
+use Rattle.protocol.proofs.Exchange.{Empty}
 use Rattle.protocol.proofs.InStep.{start}
 use Rattle.protocol.proofs.Pairing.{pairing, Agreed}
 use Rattle.protocol.proofs.TerminalFollows.{terminal-follows}
@@ -57,24 +58,27 @@ few-keys request answer = go (bothBond request answer)
 
 -- ---- where nothing is queued, due or open, no move is allowed
 
-abbrev IsEmpty : {X : Type 0} → List X → Type 0
-IsEmpty [] = Unit {0}
-IsEmpty (x ∷ l) = ⊥
-
 abbrev IsNone : {X : Type 0} → Option X → Type 0
 IsNone none = Unit {0}
 IsNone (some x) = ⊥
 
-not-empty : {X : Type 0} (earlier later : List X) (x : X) → IsEmpty (earlier ++ (x ∷ later)) → ⊥
+not-empty : {X : Type 0} (earlier later : List X) (x : X) → Empty (earlier ++ (x ∷ later)) → ⊥
 not-empty [] later x h = h
 not-empty (y ∷ earlier) later x h = h
 
 still : (shared : Shared) (L : Link) → ((r : Role) → Idle (endOf r L)) → (k : MoveKind) (L₁ : Link) →
     Move shared L k L₁ → ⊥
-still shared L idle k L₁ (takePacket r p queue answers u q v f) = subst IsEmpty (sym (idle r .noneQueued) ∙ q) tt
+still shared L idle k L₁ (takePacket r p queue answers u q v f) = subst Empty (sym (idle r .noneQueued) ∙ q) tt
 still shared L idle k L₁ (takeEvent r ε earlier later answers u q v f) =
-    not-empty earlier later ε (subst IsEmpty (sym (idle r .noneDue) ∙ q) tt)
+    not-empty earlier later ε (subst Empty (sym (idle r .noneDue) ∙ q) tt)
 still shared L idle k L₁ (runAgain r g answers x added q f) = subst IsNone (sym (idle r .noneOpen) ∙ q) tt
+
+-- the calls and inputs of each end, at most: as TerminalFollows and HeadFollows count them, but for the last rest
+abbrev terminalMoves : ℕ
+terminalMoves = 25
+
+abbrev headMoves : ℕ
+headMoves = 31
 
 module _ (shared : Shared) (s : Start) where
   -- ---- whole lists of moves
@@ -198,7 +202,7 @@ module _ (shared : Shared) (s : Start) where
   -- ---- from a fair start
 
   module _ (fair : FairStart s) where
-    fresh-in-step : LinkInStep shared s 25 31 0 (freshLink s)
+    fresh-in-step : LinkInStep shared s terminalMoves headMoves 0 (freshLink s)
     unfolding freshLink
     fresh-in-step =
         record {
@@ -215,8 +219,8 @@ module _ (shared : Shared) (s : Start) where
 
     module _ (moves inputs : ℕ) (L : Link) (x : Moves shared (freshLink s) moves inputs L) where
       in-step :
-          (d₁ : ℕ) × (e₁ : ℕ) × (moves + (d₁ + e₁) ≤ 25 + 31) × LinkInStep shared s d₁ e₁ (0 + inputs) L
-      in-step = whole 25 31 0 x fresh-in-step
+          (d₁ : ℕ) × (e₁ : ℕ) × (moves + (d₁ + e₁) ≤ terminalMoves + headMoves) × LinkInStep shared s d₁ e₁ (0 + inputs) L
+      in-step = whole terminalMoves headMoves 0 x fresh-in-step
 
       then-ends : Finishes (0 + inputs) L
       then-ends = finishes (in-step .0 + in-step .1) L (in-step .0) (in-step .1) (0 + inputs) (omega arith) (in-step .3)
@@ -235,7 +239,7 @@ module _ (shared : Shared) (s : Start) where
 -- the claim
 pub every-fair-run-ends : EveryFairRunEnds
 every-fair-run-ends s fair = (
-  25 + 31,
+  terminalMoves + headMoves,
   λ shared. record {
     bounded = λ moves inputs L x. omega (arith, in-step shared s fair moves inputs L x .2);
     begins = λ moves inputs L x. let z = then-ends shared s fair moves inputs L x in (z .0, z .1, z .2, z .3);

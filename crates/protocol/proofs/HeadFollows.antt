@@ -1,5 +1,5 @@
--- The head follows the protocol: from a fair start, whatever a fair host answers, it sends and takes the packets of the
--- exchange in their order, and ends as the claim has it. The stages stand from the last to the first. Assumes nothing.
+-- The head does what the protocol of pairing says, from a fair start. Its stages stand last first, as each leads to one
+-- above it. Before a stage n inputs were got; its calls and inputs are counted, and d are to spare. Assumes nothing.
 use Prim.Native.Nat.{ℕ, suc, _+_, _*_}
 use mathlib.Core.Path.{_≡_, refl, subst}
 use mathlib.Core.Bool.{Bool, true, false, cond, and-comm}
@@ -197,7 +197,7 @@ module _ (shared : Shared) (s : Start) (a : Answer s) where
           sends-identity (some sent) _ d n _ (refl, refl, refl) all _
       sends-keys d n b all false p = sends-identity none _ (plus 5 d) n b tt all _
 
-    -- where not both bond no key is sent: a head whose request names the identity key waits for it for ever
+    -- where not both bond no key is sent: where the request names the terminal's identity key, the head waits for it
     sends-none :
         (d n : ℕ) (b : BondInformation) (due : SentIfClaimed s a none) → both s a ≡ false → n ≡ inputsOfHead s a →
         (named : Bool) → namesIdentityKey (s .request .«initiator_key_distribution») ≡ named →

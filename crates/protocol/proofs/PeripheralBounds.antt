@@ -6,6 +6,7 @@ use mathlib.Core.Path.{refl}
 use mathlib.Core.List.{List}
 use lib.Dec.{lit≤}
 use Rattle.octets.specs.Octets.{octetsOf, sameWord}
+use Rattle.crypto.specs.Crypto.{s1Of}
 use Rattle.crypto.specs.declared.crypto.Confirm.{Confirm}
 use Rattle.crypto.specs.declared.crypto.Nonce.{Nonce}
 use Rattle.types.specs.declared.types.Command.the-variants as command
@@ -23,7 +24,7 @@ use Rattle.machine.specs.declared.PairingData.{PairingData}
 use Rattle.machine.specs.declared.Phase.{Phase}
 use Rattle.machine.specs.declared.Phase.the-variants as phase
 use Rattle.machine.specs.declared.Role.the-variants.{Peripheral}
-use Rattle.protocol.specs.Handlers.{wordIn, featuresIn, identificationIn, addressIn, namesIdentityKey, withBond, «store_confirm_bytes», sendEncryptionKey, sendIdentityKey, «handle_encryption_information», «handle_identity_information»}
+use Rattle.protocol.specs.Handlers.{wordIn, featuresIn, identificationIn, addressIn, namesIdentityKey, withBond, «store_confirm_bytes», sendEncryptionKey, sendIdentityKey, enableEncryption, «handle_encryption_information», «handle_identity_information»}
 use Rattle.protocol.specs.LegacyPeripheral.{awaitIdentityOrSucceed, awaitKeys, «send_all_keys», sendKeysOrAwaitIdentity, «handle_link_encrypted_success», «send_sconfirm», answerConfirm, «handle_peer_confirm», «handle_pass_key_input», bondLost, identityOffered, beginMethod, «handle_pairing_request», confirmValue, onMrand, «handle_pairing_random», «handle_central_identification», «handle_identity_address_information», linkEncrypted, transitionFrom, transition}
 use Rattle.protocol.proofs.Bounds.{Keeps, Anything, keeps-then, or-fail-then, delivered-then, option-bond-then}
 use Rattle.protocol.proofs.HandlerBounds.{store-confirm-bytes-keeps, send-encryption-key-keeps, send-identity-key-keeps, enable-encryption-keeps, encryption-information-keeps, identity-information-keeps, TransitionKeeps, keeps-by, other-input-keeps, on-command, on-link-encrypted, on-pass-key-input, on-pass-key-cancel, on-oob-data, on-receiving-keys}
@@ -144,9 +145,13 @@ pairing-request-keeps d payload = (
 on-mrand-keeps :
     (c : ConfirmPhaseData) (d : PairingData) (mrand : Nonce) (agrees : Bool) →
     Keeps Enters 2 36 (onMrand c d mrand agrees)
-unfolding callOctets octetsOf
-on-mrand-keeps c d mrand true =
-    (lit≤ tt, lit≤ tt, λ e. (d, refl), delivered-then _ _ _ _ d (enable-encryption-keeps Peripheral d _))
+unfolding callOctets octetsOf enableEncryption
+on-mrand-keeps c d mrand true = (
+  lit≤ tt,
+  lit≤ tt,
+  λ e. (d, refl),
+  delivered-then _ _ _ _ d (enable-encryption-keeps Peripheral d (s1Of (c .tk) (c .«local_nonce») mrand)),
+)
 on-mrand-keeps c d mrand false = tt
 
 pairing-random-keeps :

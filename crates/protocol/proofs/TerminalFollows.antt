@@ -1,5 +1,6 @@
 -- The terminal does what the protocol of pairing says, from its request on. Its stages stand last first, as each leads
--- to one above it. Before a stage n inputs were got; its moves are counted, and d are to spare. Assumes nothing.
+-- to one above it. Before a stage n inputs were got; its calls and inputs are counted, and d are to spare. Assumes
+-- nothing.
 use Prim.Native.Nat.{ℕ, suc, _+_, _*_}
 use mathlib.Core.Path.{_≡_, refl}
 use mathlib.Core.Bool.{Bool, true, false}
