@@ -99,7 +99,8 @@ module _ (c : ConfirmPhaseData) (d : PairingData) (payload : List ℕ) where
 
   pub address-short :
       (r : Role) → length payload < 7 →
-      transitionOf r (standing phase.WaitingIdentitityAddressInformation c d) (received command.IdentityAddressInformation) payload
+      transitionOf r (standing phase.WaitingIdentitityAddressInformation c d)
+      (received command.IdentityAddressInformation) payload
       ≡ fail d InvalidValue
   unfolding central.transition peripheral.transition central.«handle_identity_address_information»
       peripheral.«handle_identity_address_information» addressIn
@@ -108,7 +109,8 @@ module _ (c : ConfirmPhaseData) (d : PairingData) (payload : List ℕ) where
 
   pub address-of-no-kind :
       (r : Role) → 7 ≤ length payload → 1 < getD payload 0 0 →
-      transitionOf r (standing phase.WaitingIdentitityAddressInformation c d) (received command.IdentityAddressInformation) payload
+      transitionOf r (standing phase.WaitingIdentitityAddressInformation c d)
+      (received command.IdentityAddressInformation) payload
       ≡ fail d InvalidValue
   unfolding central.transition peripheral.transition central.«handle_identity_address_information»
       peripheral.«handle_identity_address_information» addressIn

@@ -21,6 +21,7 @@ abbrev pub other : Party → Party
 other opener = replier
 other replier = opener
 
+-- the two are the same end
 abbrev pub Is : Party → Party → Type 0
 Is opener opener = Unit {0}
 Is opener replier = ⊥
@@ -82,6 +83,7 @@ pub other-other : (r : Party) → other (other r) ≡ r
 other-other opener = refl
 other-other replier = refl
 
+-- no end is both
 pub apart : (r s : Party) → Is r s → Is (other r) s → ⊥
 apart opener opener h k = k
 apart opener replier h k = h
@@ -137,7 +139,7 @@ module _ (S : System) where
   signalItem true = some aSignal
   signalItem false = none
 
-  -- ---- what is on its way is what the link holds, in an order that the link forgets
+  -- ---- what is on its way is what the link holds, of which it keeps the order of packets alone
 
   abbrev pub Held : List Item → List Packet → (unused : ℕ) → Type 0
   Held [] [] zero = Unit {0}
@@ -266,6 +268,7 @@ module _ (S : System) where
     Takes true b r g X = Behind r g X
     Takes false b r g X = Emits r (signalItem b) g X
 
+    -- an event that is gated is behind a signal
     pub gated-behind :
         (r : Party) (ε : Event) (g : Protocol) (X : Protocol → Type 1) → gated r ε ≡ true →
         Takes (gated r ε) (signals r ε) r g X → Behind r g X
@@ -283,8 +286,8 @@ module _ (S : System) where
         × Unless (urgent (e ∷ [])) (Packets X r g l m)
     Idle X r g l m (e ∷ (e₁ ∷ v)) = Never
 
-    -- in fewer than d moves of its own, whatever comes, the end does what the protocol says; the calls of the program are
-    -- yet to be listed
+    -- in fewer than d calls and inputs of its own, whatever comes, the end does what the protocol says; the calls of the
+    -- program are yet to be listed
     unfoldable pub Fits : ℕ → Party → Protocol → Local → Program → Type 1
     Fits zero r g l p = Never
     Fits (suc d) r g l (ret m) = Idle (λ g₁ l₁ p. Fits d r g₁ l₁ p) r g l m (l .due)
@@ -310,13 +313,15 @@ module _ (S : System) where
     abbrev pub Sync : Party → (to from : List Item) → (X Y : Protocol → Type 1) → Type 1
     Sync r to from X Y = Lags r to from X Y ⊎ Lags (other r) from to Y X
 
-    pub turn : (r : Party) (to from : List Item) (X Y : Protocol → Type 1) → Sync r to from X Y →
-        Sync (other r) from to Y X
+    -- the same, seen from the other end
+    pub turn :
+        (r : Party) (to from : List Item) (X Y : Protocol → Type 1) → Sync r to from X Y → Sync (other r) from to Y X
     turn opener to from X Y (inl h) = inr h
     turn opener to from X Y (inr h) = inl h
     turn replier to from X Y (inl h) = inr h
     turn replier to from X Y (inr h) = inl h
 
+    -- what holds of where the protocol is led, and that there is such a place
     emits-map :
         (r : Party) (o : Option Item) (g : Protocol) {X Y : Protocol → Type 1} → ((g₁ : Protocol) → X g₁ → Y g₁) →
         Emits r o g X → Emits r o g Y
@@ -328,8 +333,8 @@ module _ (S : System) where
     emits-map r (some aSignal) (signal s D pk K) f h = (h .0, f (message (other s) D pk K) (h .1))
     emits-map r (some aSignal) (finish F j) f h = h
 
-    emits-end : (r : Party) (o : Option Item) (g : Protocol) (X : Protocol → Type 1) → Emits r o g X → (g₁ : Protocol)
-        × X g₁
+    emits-end :
+        (r : Party) (o : Option Item) (g : Protocol) (X : Protocol → Type 1) → Emits r o g X → (g₁ : Protocol) × X g₁
     emits-end r none g X h = (g, h)
     emits-end r (some (aPacket p)) (message s D pk K) X h = (K (h .1), h .3)
     emits-end r (some (aPacket p)) (signal s D pk K) X h = never h
@@ -344,8 +349,8 @@ module _ (S : System) where
     along-map r [] g f h = f g h
     along-map r (i ∷ q) g f h = emits-map r (some i) g (λ g₁. along-map r q g₁ f) h
 
-    along-end : (r : Party) (q : List Item) (g : Protocol) (X : Protocol → Type 1) → Along r q g X → (g₁ : Protocol)
-        × X g₁
+    along-end :
+        (r : Party) (q : List Item) (g : Protocol) (X : Protocol → Type 1) → Along r q g X → (g₁ : Protocol) × X g₁
     along-end r [] g X h = (g, h)
     along-end r (i ∷ q) g X h =
         let z = emits-end r (some i) g (λ g₁. Along r q g₁ X) h in
@@ -379,8 +384,9 @@ module _ (S : System) where
     onward r to from f (inl h) = inl (h .0, h .1, f (h .0) (h .2), h .3)
     onward r to from f (inr h) = inr (h .0, h .1, h .2, along-map (other (other r)) from (h .0) f (h .3))
 
-    pub somewhere : (r : Party) (to from : List Item) (X Y : Protocol → Type 1) → Sync r to from X Y → (g : Protocol)
-        × X g
+    -- the end r is at some place of the protocol
+    pub somewhere :
+        (r : Party) (to from : List Item) (X Y : Protocol → Type 1) → Sync r to from X Y → (g : Protocol) × X g
     somewhere r to from X Y (inl h) = (h .0, h .2)
     somewhere r to from X Y (inr h) = along-end (other (other r)) from (h .0) X (h .3)
 

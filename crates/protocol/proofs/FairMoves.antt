@@ -64,6 +64,7 @@ module _ (shared : Shared) (s : Start) where
   HadBy none had = Unit {0}
   HadBy (some o) had = hadOobAfter (o .given) had ≡ had
 
+  -- queued packets and the open step have codes of commands, and OOB data is had once
   pub record Sound (e : End) : Type 0 where
     pub queued : AllKnown (e .queue)
     pub opened : KnownOpen (e .openStep)
@@ -286,6 +287,12 @@ module _ (shared : Shared) (s : Start) where
     abbrev unusedNow : ℕ
     unusedNow = unusedSignals (L .terminal .hadOob) (L .head .hadOob)
 
+    abbrev TerminalAfter : Given → List ℕ → List QueuedPacket → List Due → List Call → (inputs n n₂ : ℕ) → Type 1
+    TerminalAfter = After opener L (L .head) d e (h .terminalInputs) (h .headInputs) 0
+
+    abbrev HeadAfter : Given → List ℕ → List QueuedPacket → List Due → List Call → (inputs n n₂ : ℕ) → Type 1
+    HeadAfter = After replier L (L .terminal) e d (h .headInputs) (h .terminalInputs) unusedNow
+
     -- the head's side first
     head-in-step :
         InStep Ends Agrees replier e d
@@ -299,7 +306,7 @@ module _ (shared : Shared) (s : Start) where
     module _ (g : Given) (answers : List ℕ) (queue : List QueuedPacket) (due : List Due) (new : List Call) where
       terminal-moved :
           (k : ℕ) →
-          After opener L (L .head) d e (h .terminalInputs) (h .headInputs) 0 g answers queue due new k
+          TerminalAfter g answers queue due new k
           (unusedSignals (hadOobAfter g (L .terminal .hadOob)) (L .head .hadOob)) 0 →
           KnownGiven g → AllKnown queue →
           oobs due + one (hadOobAfter g (L .terminal .hadOob)) ≡ one (hasListed 0x25 (L .terminal .calls)) →
@@ -323,7 +330,7 @@ module _ (shared : Shared) (s : Start) where
       -- a move of the head
       head-moved :
           (k : ℕ) →
-          After replier L (L .terminal) e d (h .headInputs) (h .terminalInputs) unusedNow g answers queue due new k 0
+          HeadAfter g answers queue due new k 0
           (unusedSignals (L .terminal .hadOob) (hadOobAfter g (L .head .hadOob))) →
           KnownGiven g → AllKnown queue →
           oobs due + one (hadOobAfter g (L .head .hadOob)) ≡ one (hasListed 0x25 (L .head .calls)) →
@@ -366,7 +373,7 @@ module _ (shared : Shared) (s : Start) where
     module _ (ε : Due) (earlier later : List Due) (answers : List ℕ) where
       terminal-event :
           L .terminal .due ≡ earlier ++ (ε ∷ later) →
-          After opener L (L .head) d e (h .terminalInputs) (h .headInputs) 0 (anEvent ε) answers (L .terminal .queue)
+          TerminalAfter (anEvent ε) answers (L .terminal .queue)
           (earlier ++ later) (callsAt shared Central L (anEvent ε) answers) (suc (h .terminalInputs))
           (unusedSignals (hadOobAfter (anEvent ε) (L .terminal .hadOob)) (L .head .hadOob)) 0 →
           (hadOobAfter (anEvent ε) (L .terminal .hadOob) ≡ true → L .head .hadOob ≡ true) →
@@ -382,7 +389,7 @@ module _ (shared : Shared) (s : Start) where
 
       head-event :
           L .head .due ≡ earlier ++ (ε ∷ later) →
-          After replier L (L .terminal) e d (h .headInputs) (h .terminalInputs) unusedNow (anEvent ε) answers
+          HeadAfter (anEvent ε) answers
           (L .head .queue)
           (earlier ++ later) (callsAt shared Peripheral L (anEvent ε) answers) (suc (h .headInputs)) 0
           (unusedSignals (L .terminal .hadOob) (hadOobAfter (anEvent ε) (L .head .hadOob))) →
@@ -410,7 +417,7 @@ module _ (shared : Shared) (s : Start) where
         let before : unusedNow ≡ 1 = rw (u, unhad) refl in
         let after : unusedSignals true (L .head .hadOob) ≡ 0 = rw u refl in
         terminal-event oobData earlier later answers q
-        (subst (λ x. After opener L (L .head) d e (h .terminalInputs) (h .headInputs) 0 (anEvent oobData) answers
+        (subst (λ x. TerminalAfter (anEvent oobData) answers
         (L .terminal .queue) (earlier ++ later) (callsAt shared Central L (anEvent oobData) answers)
         (suc (h .terminalInputs)) x 0) (sym after)
         (behind-step opener L (L .head) d e (h .terminalInputs) (h .headInputs) 0 oobData earlier later answers 0 o q
@@ -428,16 +435,15 @@ module _ (shared : Shared) (s : Start) where
         let unhad = not-had earlier later (L .head .due) (L .head .hadOob) (hasListed 0x25 (L .head .calls)) q
         (h .headSound .oobOnce) in
         head-event oobData earlier later answers q
-        (subst (λ x. After replier L (L .terminal) e d (h .headInputs) (h .terminalInputs) unusedNow (anEvent oobData)
-        answers
-        (L .head .queue) (earlier ++ later) (callsAt shared Peripheral L (anEvent oobData) answers)
+        (subst (λ x. HeadAfter (anEvent oobData)
+        answers (L .head .queue) (earlier ++ later) (callsAt shared Peripheral L (anEvent oobData) answers)
         (suc (h .headInputs)) 0 x) (signed (L .terminal .hadOob) (L .head .hadOob) unhad (h .headFirst))
         (event-step replier L (L .terminal) e d (h .headInputs) (h .terminalInputs) unusedNow oobData earlier later
-        answers 0
-        o q refl f head-in-step))
+        answers 0 o q refl f head-in-step))
         (λ had. refl)
       where
-        signed : (x y : Bool) → y ≡ false → (x ≡ true → y ≡ true) → plusOne true (unusedSignals x y) ≡ unusedSignals x true
+        signed : (x y : Bool) → y ≡ false → (x ≡ true → y ≡ true) → plusOne true (unusedSignals x y)
+            ≡ unusedSignals x true
         signed true true q first = absurd (true≢false q)
         signed true false q first = absurd (true≢false (sym (first refl)))
         signed false true q first = absurd (true≢false q)
@@ -464,21 +470,18 @@ module _ (shared : Shared) (s : Start) where
     kept k L₁ (takeEvent Central passKey earlier later answers o q u f) =
         terminal-event passKey earlier later answers q
         (event-step opener L (L .head) d e (h .terminalInputs) (h .headInputs) 0 passKey earlier later answers unusedNow
-        o q
-        refl f (h .inStep))
+        o q refl f (h .inStep))
         (h .headFirst)
     kept k L₁ (takeEvent Central oobData earlier later answers o q u f) = terminal-oob earlier later answers o q u f
     kept k L₁ (takeEvent Central encryptionOn earlier later answers o q u f) =
         terminal-event encryptionOn earlier later answers q
         (event-step opener L (L .head) d e (h .terminalInputs) (h .headInputs) 0 encryptionOn earlier later answers
-        unusedNow
-        o q refl f (h .inStep))
+        unusedNow o q refl f (h .inStep))
         (h .headFirst)
     kept k L₁ (takeEvent Peripheral passKey earlier later answers o q u f) =
         head-event passKey earlier later answers q
         (event-step replier L (L .terminal) e d (h .headInputs) (h .terminalInputs) unusedNow passKey earlier later
-        answers 0
-        o q refl f head-in-step)
+        answers 0 o q refl f head-in-step)
         (h .headFirst)
     kept k L₁ (takeEvent Peripheral oobData earlier later answers o q u f) = head-oob earlier later answers o q f
     kept k L₁ (takeEvent Peripheral encryptionOn earlier later answers o q u f) =
@@ -493,12 +496,12 @@ module _ (shared : Shared) (s : Start) where
         let new = drop (length (callsAt shared Central L g answers))
         (callsAt shared Central L g (answers ++ (x ∷ added))) in
         let z = again-step opener L (L .head) d e (h .terminalInputs) (h .headInputs) 0 unusedNow g answers x added o f
-        known
-        (h .inStep) in
+        known (h .inStep) in
         recounted (h .terminalInputs + h .headInputs) n L₁ (h .total)
         (terminal-moved g (answers ++ (x ∷ added)) (L .terminal .queue) (L .terminal .due) new (h .terminalInputs)
-        (subst (λ b. After opener L (L .head) d e (h .terminalInputs) (h .headInputs) 0 g (answers ++ (x ∷ added))
-        (L .terminal .queue) (L .terminal .due) new (h .terminalInputs) (unusedSignals b (L .head .hadOob)) 0) (sym had) z)
+        (subst (λ b. TerminalAfter g (answers ++ (x ∷ added))
+        (L .terminal .queue) (L .terminal .due) new (h .terminalInputs) (unusedSignals b (L .head .hadOob)) 0) (sym had)
+        z)
         known (h .terminalSound .queued) (rw had (h .terminalSound .oobOnce)) (rw had (h .headFirst)))
     kept k L₁ (runAgain Peripheral g answers x added o f) =
         let known = open-given (L .head) g answers (h .headSound) o in
@@ -507,12 +510,12 @@ module _ (shared : Shared) (s : Start) where
         let new = drop (length (callsAt shared Peripheral L g answers))
         (callsAt shared Peripheral L g (answers ++ (x ∷ added))) in
         let z = again-step replier L (L .terminal) e d (h .headInputs) (h .terminalInputs) unusedNow 0 g answers x added
-        o f
-        known head-in-step in
+        o f known head-in-step in
         recounted (h .terminalInputs + h .headInputs) n L₁ (h .total)
         (head-moved g (answers ++ (x ∷ added)) (L .head .queue) (L .head .due) new (h .headInputs)
-        (subst (λ b. After replier L (L .terminal) e d (h .headInputs) (h .terminalInputs) unusedNow g
-        (answers ++ (x ∷ added)) (L .head .queue) (L .head .due) new (h .headInputs) 0 (unusedSignals (L .terminal .hadOob) b))
+        (subst (λ b. HeadAfter g
+        (answers ++ (x ∷ added)) (L .head .queue) (L .head .due) new (h .headInputs) 0
+        (unusedSignals (L .terminal .hadOob) b))
         (sym had) z)
         known (h .headSound .queued) (rw had (h .headSound .oobOnce)) (rw had (h .headFirst)))
 

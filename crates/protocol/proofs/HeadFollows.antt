@@ -387,7 +387,7 @@ module _ (shared : Shared) (s : Start) (fair : FairStart s) where
   tells-bond-lost d named true = quiet refl λ u. asks-irk d named
   tells-bond-lost d named false = asks-irk (suc d) named
 
--- the head follows the whole exchange, in fewer than 32 moves
+-- the head follows the whole exchange, in fewer than 32 calls and inputs
 pub head-follows :
     (shared : Shared) (s : Start) (d : ℕ) → FairStart s →
     HeadFollows shared s (plus 32 d) (wholeExchange shared s) (having shared false false false [] [] [] 0)

@@ -312,7 +312,11 @@ module _ (shared : Shared) (s : Start) where
 
     abbrev pub encryptionOf : (mrand srand : Nonce) → Encryption
     encryptionOf mrand srand =
-        record { key = maskedOf (size s a) (s1Of (tkOf shared (chosen s a)) srand mrand); level = securityLevel (chosen s a) }
+        record {
+          key = maskedOf (size s a) (s1Of (tkOf shared (chosen s a)) srand mrand);
+          level =
+              securityLevel (chosen s a);
+        }
 
     -- how each end stands at last
     pub record TerminalDone (e : Encryption) (x : Option SentKeys) (m : Machine) (l : Local (pairing shared)) : Type 0
@@ -334,7 +338,8 @@ module _ (shared : Shared) (s : Start) where
     Done e x replier m l = HeadDone e x m l
 
     same-bonds :
-        (x : Option SentKeys) (m m₁ : Machine) → AreSent x → Stored s a x m → Stored s a x m₁ → SameBonds (size s a) m m₁
+        (x : Option SentKeys) (m m₁ : Machine) → AreSent x → Stored s a x m → Stored s a x m₁ →
+        SameBonds (size s a) m m₁
     same-bonds none m m₁ h t u = absurd h
     same-bonds (some x) m m₁ h t u =
         record {
@@ -400,7 +405,8 @@ module _ (shared : Shared) (s : Start) where
         identityKey replier (namesIdentityKey (a .features .«responder_key_distribution»)) (terminalKeys e x due)
 
     abbrev pub headKeys :
-        Encryption → (named : Bool) → namesEncryptionKey (a .features .«responder_key_distribution») ≡ named → PairingProtocol
+        Encryption → (named : Bool) → namesEncryptionKey (a .features .«responder_key_distribution») ≡ named →
+        PairingProtocol
     headKeys e true p = encryptionKey replier (λ x. headIdentity e (some x) (λ b q. tt))
     headKeys e false p = headIdentity e none (λ b q. absurd (true≢false (sym q ∙ p)))
 
