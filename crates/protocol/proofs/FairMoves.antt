@@ -1,7 +1,7 @@
 -- Every move of the fair link keeps its two ends in step, and leaves less to do; and where they are in step some move is
 -- allowed, or all is over. Assumes nothing.
 use Prim.Native.Nat.{ℕ, suc, _+_, _≤_, _<_}
-use mathlib.Core.Path.{_≡_, refl, sym, ap, _∙_, subst, subst₂}
+use mathlib.Core.Path.{_≡_, refl, sym, ap, _∙_, subst, subst₂, subst₃}
 use mathlib.Core.Bool.{Bool, true, false, not, _&&_, true≢false}
 use mathlib.Core.List.{List, [], _∷_, _++_}
 use mathlib.Core.Logic.{_⊎_, inl, inr}
@@ -23,7 +23,7 @@ use Rattle.protocol.proofs.Programs.{along}
 use Rattle.protocol.proofs.Replies.{reads}
 use Rattle.protocol.proofs.Allowed.{no-answers}
 use Rattle.protocol.proofs.FairReplies.{fair-reply, more-answers}
-use Rattle.protocol.proofs.Exchange.{Party, opener, replier, plusOne, System, Local, locally, FairOf, Hosts}
+use Rattle.protocol.proofs.Exchange.{Party, opener, replier, other, plusOne, System, Local, locally, FairOf, Hosts}
 use Rattle.protocol.proofs.InStep.{Act, Side, side, InStep, in-step-turned, sideAfter, Kept, packet-kept, event-kept, behind-kept, again-kept, Can, packet-can, event-can, behind-can, again-can, Over, progress}
 use Rattle.protocol.proofs.InStep.{receives as received}
 use Rattle.protocol.proofs.Pairing.{roleOf, summary, heldBack, releases, pairing, Agreed}
@@ -123,120 +123,6 @@ module _ (shared : Shared) (s : Start) where
       ap (λ q. side Ends Agrees (actOf shared s (e .machine) (e .openStep))
       (locally Ends (summary (e .calls)) (e .due) k) q (plusOne b n)) (send-all shared s new (e .queue))
 
-  -- ---- a step of one end
-
-  module _ (p : Party) (L : Link) (that : End) (d e k k₂ n₂ : ℕ) where
-    abbrev this : End
-    this = endOf (roleOf p) L
-
-    -- the sides after it are the ends after it
-    abbrev After : Given → List ℕ → List QueuedPacket → List Due → List Call → (inputs n n₂ : ℕ) → Type 1
-    After g answers queue due new inputs n n₂ =
-        (d₁ : ℕ) × (d₁ < d)
-        × InStep Ends Agrees p d₁ e
-        (sideOf shared s inputs n (endAfter shared (roleOf p) L g answers queue due new))
-        (sideOf shared s k₂ n₂ (receives new that))
-
-    after-side :
-        (g : Given) (answers : List ℕ) (queue : List QueuedPacket) (due : List Due) (new : List Call) (inputs n : ℕ) →
-        KnownGiven g →
-        sideAfter Ends Agrees p (this .machine) g answers new
-        (locally Ends (summary (this .calls)) due inputs) queue n
-        ≡ sideOf shared s inputs n (endAfter shared (roleOf p) L g answers queue due new)
-    after-side g answers queue due new inputs n known =
-        rw (note-all shared s new (this .calls) due inputs, act-after shared s (roleOf p) L g answers known) refl
-
-    after :
-        (g : Given) (answers : List ℕ) (queue : List QueuedPacket) (due : List Due) (new : List Call) (inputs n : ℕ)
-        (b : Bool) →
-        KnownGiven g →
-        Kept Ends Agrees p d e
-        (sideAfter Ends Agrees p (this .machine) g answers new
-        (locally Ends (summary (this .calls)) due inputs) queue n)
-        (received Ends Agrees new b (sideOf shared s k₂ n₂ that)) →
-        After g answers queue due new inputs n (plusOne b n₂)
-    after g answers queue due new inputs n b known z = (
-      z .0,
-      z .1,
-      subst₂ (λ x y. InStep Ends Agrees p (z .0) e x y)
-          (after-side g answers queue due new inputs n known) (receives-side new that b k₂ n₂) (z .2),
-    )
-
-    -- an end in no step, with these packets, in step with the other
-    abbrev Before : (n : ℕ) → List QueuedPacket → Type 1
-    Before n queue =
-        InStep Ends Agrees p d e
-        (side Ends Agrees (actOf shared s (this .machine) none)
-        (locally Ends (summary (this .calls)) (this .due) k) queue n)
-        (sideOf shared s k₂ n₂ that)
-
-    abbrev InStepThere : (n : ℕ) → Type 1
-    InStepThere n =
-        InStep Ends Agrees p d e (sideOf shared s k n this) (sideOf shared s k₂ n₂ that)
-
-    not-open : (n : ℕ) (queue : List QueuedPacket) → this .openStep ≡ none → this .queue ≡ queue → InStepThere n →
-        Before n queue
-    not-open n queue o q z =
-        subst₂ (λ x w. InStep Ends Agrees p d e
-        (side Ends Agrees (actOf shared s (this .machine) x)
-        (locally Ends (summary (this .calls)) (this .due) k) w n)
-        (sideOf shared s k₂ n₂ that)) o q z
-
-    packet-step :
-        (n : ℕ) (x : QueuedPacket) (queue : List QueuedPacket) (answers : List ℕ) → this .openStep ≡ none →
-        this .queue ≡ x ∷ queue → reportDue (this .due) ≡ false → FairHost shared (roleOf p) L (aPacket x) answers →
-        KnownGiven (aPacket x) → InStepThere n →
-        After (aPacket x) answers queue (this .due) (callsAt shared (roleOf p) L (aPacket x) answers) (suc k) n n₂
-    unfolding callsAt playOf
-    packet-step n x queue answers o q u host known z =
-        after (aPacket x) answers queue (this .due) _ (suc k) n false known
-        (packet-kept Ends Agrees hosts p d e (this .machine)
-        (locally Ends (summary (this .calls)) (this .due) k) queue answers (sideOf shared s k₂ n₂ that) n x u
-        (host .octets, host .fair) (not-open n (x ∷ queue) o q z))
-
-    module _ (ε : Due) (earlier later : List Due) (answers : List ℕ) where
-      event-step :
-          (n : ℕ) → this .openStep ≡ none → this .due ≡ earlier ++ (ε ∷ later) → heldBack p ε ≡ false →
-          FairHost shared (roleOf p) L (anEvent ε) answers → InStepThere n →
-          After (anEvent ε) answers (this .queue) (earlier ++ later) (callsAt shared (roleOf p) L (anEvent ε) answers)
-          (suc k) n (plusOne (releases p ε) n₂)
-      unfolding callsAt playOf
-      event-step n o q u host z =
-          after (anEvent ε) answers (this .queue) (earlier ++ later) _ (suc k) n (releases p ε) tt
-          (event-kept Ends Agrees hosts p d e (this .machine)
-          (locally Ends (summary (this .calls)) (this .due) k) (this .queue) answers (sideOf shared s k₂ n₂ that)
-          ε earlier later n q u (host .octets, host .fair) (not-open n (this .queue) o refl z))
-
-      behind-step :
-          (n : ℕ) → this .openStep ≡ none → this .due ≡ earlier ++ (ε ∷ later) → heldBack p ε ≡ true →
-          FairHost shared (roleOf p) L (anEvent ε) answers → InStepThere (suc n) →
-          After (anEvent ε) answers (this .queue) (earlier ++ later) (callsAt shared (roleOf p) L (anEvent ε) answers)
-          (suc k) n n₂
-      unfolding callsAt playOf
-      behind-step n o q u host z =
-          after (anEvent ε) answers (this .queue) (earlier ++ later) _ (suc k) n false tt
-          (behind-kept Ends Agrees hosts p d e (this .machine)
-          (locally Ends (summary (this .calls)) (this .due) k) (this .queue) answers (sideOf shared s k₂ n₂ that)
-          ε earlier later n q u (host .octets, host .fair) (not-open (suc n) (this .queue) o refl z))
-
-    again-step :
-        (n : ℕ) (g : Given) (answers : List ℕ) (x : ℕ) (added : List ℕ) →
-        this .openStep ≡ some (record { given = g; answers = answers }) →
-        FairHost shared (roleOf p) L g (answers ++ (x ∷ added)) → KnownGiven g → InStepThere n →
-        After g (answers ++ (x ∷ added)) (this .queue) (this .due)
-        (drop (length (callsAt shared (roleOf p) L g answers)) (callsAt shared (roleOf p) L g (answers ++ (x ∷ added))))
-        k n n₂
-    unfolding callsAt playOf
-    again-step n g answers x added o host known z =
-        after g (answers ++ (x ∷ added)) (this .queue) (this .due) _ k n false known
-        (again-kept Ends Agrees hosts p d e (this .machine)
-        (locally Ends (summary (this .calls)) (this .due) k) (this .queue) answers (sideOf shared s k₂ n₂ that)
-        n g x added (host .octets, host .fair)
-        (subst (λ y. InStep Ends Agrees p d e
-        (side Ends Agrees (actOf shared s (this .machine) y)
-        (locally Ends (summary (this .calls)) (this .due) k) (this .queue) n)
-        (sideOf shared s k₂ n₂ that)) o z))
-
   -- ---- events: what is due and what was had
 
   one-most : (b : Bool) → one b ≤ 1
@@ -255,17 +141,32 @@ module _ (shared : Shared) (s : Start) where
 
   -- OOB data that is due was not had
   not-had :
-      (earlier later due : List Due) (had : Bool) (x : Bool) → due ≡ earlier ++ (oobData ∷ later) →
-      oobs due + one had ≡ one x → had ≡ false
-  not-had earlier later due true x q o =
-      absurd (omega (arith, o, ap oobs q, one-most x, oobs-append earlier (oobData ∷ later)))
-  not-had earlier later due false x q o = refl
+      (e : End) (earlier later : List Due) → Sound e → e .due ≡ earlier ++ (oobData ∷ later) → e .hadOob ≡ false
+  not-had e earlier later k q = go (e .hadOob) (k .oobOnce)
+    where
+      go : (had : Bool) → oobs (e .due) + one had ≡ one (hasListed 0x25 (e .calls)) → had ≡ false
+      go true o =
+          absurd (omega (
+            arith,
+            o,
+            ap oobs q,
+            one-most (hasListed 0x25 (e .calls)),
+            oobs-append earlier (oobData ∷ later),
+          ))
+      go false o = refl
 
   -- ---- the link, in step
 
-  -- the head's signal that the terminal has not used
-  abbrev unusedSignals : (terminalHad headHad : Bool) → ℕ
-  unusedSignals terminalHad headHad = one (headHad && not terminalHad)
+  -- the other end's signals that an end has not used, by whether it and the other have had their OOB data: the terminal
+  -- may use the head's
+  abbrev unusedBy : Party → (had thatHad : Bool) → ℕ
+  unusedBy opener had thatHad = one (thatHad && not had)
+  unusedBy replier had thatHad = 0
+
+  -- the head had it before the terminal
+  abbrev HeadFirst : Party → (had thatHad : Bool) → Type 0
+  HeadFirst opener had thatHad = had ≡ true → thatHad ≡ true
+  HeadFirst replier had thatHad = thatHad ≡ true → had ≡ true
 
   pub record LinkInStep (d e inputs : ℕ) (L : Link) : Type 1 where
     pub terminalInputs : ℕ
@@ -273,87 +174,166 @@ module _ (shared : Shared) (s : Start) where
     pub total : terminalInputs + headInputs ≡ inputs
     pub inStep :
         InStep Ends Agrees opener d e
-        (sideOf shared s terminalInputs (unusedSignals (L .terminal .hadOob) (L .head .hadOob)) (L .terminal))
+        (sideOf shared s terminalInputs (unusedBy opener (L .terminal .hadOob) (L .head .hadOob)) (L .terminal))
         (sideOf shared s headInputs 0 (L .head))
     pub terminalSound : Sound (L .terminal)
     pub headSound : Sound (L .head)
-    pub headFirst : L .terminal .hadOob ≡ true → L .head .hadOob ≡ true
+    pub headFirst : HeadFirst opener (L .terminal .hadOob) (L .head .hadOob)
 
   -- fewer moves are left after it
   abbrev pub Fewer : (d e inputs : ℕ) → Link → Type 1
   Fewer d e inputs L = (d₁ : ℕ) × (e₁ : ℕ) × (d₁ + e₁ < d + e) × LinkInStep d₁ e₁ inputs L
 
+  -- of the terminal's number and the head's, an end's own
+  abbrev own : Party → ℕ → ℕ → ℕ
+  own opener t h = t
+  own replier t h = h
+
+  abbrev this : Party → Link → End
+  this p L = endOf (roleOf p) L
+
+  abbrev that : Party → Link → End
+  that p L = endOf (roleOf (other p)) L
+
   module _ (L : Link) (d e n : ℕ) (h : LinkInStep d e n L) where
-    abbrev unusedNow : ℕ
-    unusedNow = unusedSignals (L .terminal .hadOob) (L .head .hadOob)
+    -- ---- what LinkInStep says, seen from either end
 
-    abbrev TerminalAfter : Given → List ℕ → List QueuedPacket → List Due → List Call → (inputs n n₂ : ℕ) → Type 1
-    TerminalAfter = After opener L (L .head) d e (h .terminalInputs) (h .headInputs) 0
+    abbrev inputsAt : Party → ℕ
+    inputsAt p = own p (h .terminalInputs) (h .headInputs)
 
-    abbrev HeadAfter : Given → List ℕ → List QueuedPacket → List Due → List Call → (inputs n n₂ : ℕ) → Type 1
-    HeadAfter = After replier L (L .terminal) e d (h .headInputs) (h .terminalInputs) unusedNow
+    abbrev unusedAt : Party → ℕ
+    unusedAt p = unusedBy p (this p L .hadOob) (that p L .hadOob)
 
-    -- the head's side first
-    head-in-step :
-        InStep Ends Agrees replier e d
-        (sideOf shared s (h .headInputs) 0 (L .head)) (sideOf shared s (h .terminalInputs) unusedNow (L .terminal))
-    head-in-step =
+    abbrev unusedThere : Party → ℕ
+    unusedThere p = unusedBy (other p) (that p L .hadOob) (this p L .hadOob)
+
+    abbrev stateAt : Party → Local Ends
+    stateAt p = locally Ends (summary (this p L .calls)) (this p L .due) (inputsAt p)
+
+    abbrev sideThere : Party → Side Ends Agrees
+    sideThere p = sideOf shared s (inputsAt (other p)) (unusedThere p) (that p L)
+
+    in-step :
+        (p : Party) →
+        InStep Ends Agrees p (own p d e) (own (other p) d e) (sideOf shared s (inputsAt p) (unusedAt p) (this p L))
+        (sideThere p)
+    in-step opener = h .inStep
+    in-step replier =
         in-step-turned Ends Agrees opener d e
-        (sideOf shared s (h .terminalInputs) unusedNow (L .terminal)) (sideOf shared s (h .headInputs) 0 (L .head))
+        (sideOf shared s (h .terminalInputs) (unusedAt opener) (L .terminal)) (sideOf shared s (h .headInputs) 0 (L .head))
         (h .inStep)
 
-    -- a move of the terminal
+    sound : (p : Party) → Sound (this p L)
+    sound opener = h .terminalSound
+    sound replier = h .headSound
+
+    head-first : (p : Party) → HeadFirst p (this p L .hadOob) (that p L .hadOob)
+    head-first opener = h .headFirst
+    head-first replier = h .headFirst
+
+    same-inputs : (p : Party) → inputsAt p + inputsAt (other p) ≡ n
+    same-inputs opener = h .total
+    same-inputs replier = omega (arith, h .total)
+
+    -- ---- a move of an end
+
+    abbrev hadAfter : Party → Given → Bool
+    hadAfter p g = hadOobAfter g (this p L .hadOob)
+
+    -- what is asked of it besides: what it is given, the packets and events that it leaves, and the inputs after it, of
+    -- the end and of both
+    pub record SoundMove (p : Party) (g : Given) (queue : List QueuedPacket) (due : List Due) (inputs total : ℕ) : Type 0
+      where
+        pub counted : inputs + inputsAt (other p) ≡ total
+        pub known : KnownGiven g
+        pub queued : AllKnown queue
+        pub oobOnce : oobs due + one (hadAfter p g) ≡ one (hasListed 0x25 (this p L .calls))
+        pub headFirst : HeadFirst p (hadAfter p g) (that p L .hadOob)
+
     module _ (g : Given) (answers : List ℕ) (queue : List QueuedPacket) (due : List Due) (new : List Call) where
-      terminal-moved :
-          (k : ℕ) →
-          TerminalAfter g answers queue due new k
-          (unusedSignals (hadOobAfter g (L .terminal .hadOob)) (L .head .hadOob)) 0 →
-          KnownGiven g → AllKnown queue →
-          oobs due + one (hadOobAfter g (L .terminal .hadOob)) ≡ one (hasListed 0x25 (L .terminal .calls)) →
-          (hadOobAfter g (L .terminal .hadOob) ≡ true → L .head .hadOob ≡ true) →
-          Fewer d e (k + h .headInputs) (linkAfter shared Central L g answers queue due new)
-      terminal-moved k z known queued o first = (
-        z .0,
+      -- the link after it is in step, if the ends after it are
+      linked :
+          (p : Party) (inputs total d₁ : ℕ) → SoundMove p g queue due inputs total → d₁ < own p d e →
+          InStep Ends Agrees p d₁ (own (other p) d e)
+          (sideOf shared s inputs (unusedBy p (hadAfter p g) (that p L .hadOob))
+          (endAfter shared (roleOf p) L g answers queue due new))
+          (sideOf shared s (inputsAt (other p)) (unusedBy (other p) (that p L .hadOob) (hadAfter p g))
+          (receives new (that p L))) →
+          Fewer d e total (linkAfter shared (roleOf p) L g answers queue due new)
+      linked opener inputs total d₁ m less z = (
+        d₁,
         e,
-        omega (arith, z .1),
+        omega (arith, less),
         record {
-          terminalInputs = k;
+          terminalInputs = inputs;
           headInputs = h .headInputs;
-          total = refl;
-          inStep = z .2;
-          terminalSound = after-sound Central L g answers queue due new known queued o;
+          total = m .counted;
+          inStep = z;
+          terminalSound = after-sound Central L g answers queue due new (m .known) (m .queued) (m .oobOnce);
           headSound = receives-sound new (L .head) (h .headSound);
-          headFirst = first;
+          headFirst = m .headFirst;
+        },
+      )
+      linked replier inputs total d₁ m less z = (
+        d,
+        d₁,
+        omega (arith, less),
+        record {
+          terminalInputs = h .terminalInputs;
+          headInputs = inputs;
+          total = omega (arith, m .counted);
+          inStep =
+              in-step-turned Ends Agrees replier d₁ d
+              (sideOf shared s inputs 0 (endAfter shared Peripheral L g answers queue due new))
+              (sideOf shared s (h .terminalInputs) (unusedBy opener (L .terminal .hadOob) (hadAfter replier g))
+              (receives new (L .terminal))) z;
+          terminalSound = receives-sound new (L .terminal) (h .terminalSound);
+          headSound = after-sound Peripheral L g answers queue due new (m .known) (m .queued) (m .oobOnce);
+          headFirst = m .headFirst;
         },
       )
 
-      -- a move of the head
-      head-moved :
-          (k : ℕ) →
-          HeadAfter g answers queue due new k 0
-          (unusedSignals (L .terminal .hadOob) (hadOobAfter g (L .head .hadOob))) →
-          KnownGiven g → AllKnown queue →
-          oobs due + one (hadOobAfter g (L .head .hadOob)) ≡ one (hasListed 0x25 (L .head .calls)) →
-          (L .terminal .hadOob ≡ true → hadOobAfter g (L .head .hadOob) ≡ true) →
-          Fewer d e (h .terminalInputs + k) (linkAfter shared Peripheral L g answers queue due new)
-      head-moved k z known queued o first =
-          let n₁ = unusedSignals (L .terminal .hadOob) (hadOobAfter g (L .head .hadOob)) in (
-            d,
-            z .0,
-            omega (arith, z .1),
-            record {
-              terminalInputs = h .terminalInputs;
-              headInputs = k;
-              total = refl;
-              inStep =
-                  in-step-turned Ends Agrees replier (z .0) d
-                  (sideOf shared s k 0 (endAfter shared Peripheral L g answers queue due new))
-                  (sideOf shared s (h .terminalInputs) n₁ (receives new (L .terminal))) (z .2);
-              terminalSound = receives-sound new (L .terminal) (h .terminalSound);
-              headSound = after-sound Peripheral L g answers queue due new known queued o;
-              headFirst = first;
-            },
-          )
+      -- .. and they are, if the sides after it are, with the signals that are then not used
+      moved :
+          (p : Party) (inputs total unused : ℕ) (b : Bool) → SoundMove p g queue due inputs total →
+          unused ≡ unusedBy p (hadAfter p g) (that p L .hadOob) →
+          plusOne b (unusedThere p) ≡ unusedBy (other p) (that p L .hadOob) (hadAfter p g) →
+          Kept Ends Agrees p (own p d e) (own (other p) d e)
+          (sideAfter Ends Agrees p (this p L .machine) g answers new
+          (locally Ends (summary (this p L .calls)) due inputs) queue unused)
+          (received Ends Agrees new b (sideThere p)) →
+          Fewer d e total (linkAfter shared (roleOf p) L g answers queue due new)
+      moved p inputs total unused b m here there z =
+          let ended : sideAfter Ends Agrees p (this p L .machine) g answers new
+          (locally Ends (summary (this p L .calls)) due inputs) queue unused
+          ≡ sideOf shared s inputs unused (endAfter shared (roleOf p) L g answers queue due new) =
+          rw (
+            note-all shared s new (this p L .calls) due inputs,
+            act-after shared s (roleOf p) L g answers (m .known),
+          ) refl in
+          linked p inputs total (z .0) m (z .1)
+          (subst₂ (λ x y. InStep Ends Agrees p (z .0) (own (other p) d e) x y)
+          (ended ∙ ap (λ k. sideOf shared s inputs k (endAfter shared (roleOf p) L g answers queue due new)) here)
+          (receives-side new (that p L) b (inputsAt (other p)) (unusedThere p)
+          ∙ ap (λ k. sideOf shared s (inputsAt (other p)) k (receives new (that p L))) there)
+          (z .2))
+
+    -- ---- each kind of move
+
+    -- an end in no step, with these packets and signals, is in step with the other
+    idle-in-step :
+        (p : Party) (queue : List QueuedPacket) (unused : ℕ) → this p L .openStep ≡ none → this p L .queue ≡ queue →
+        unusedAt p ≡ unused →
+        InStep Ends Agrees p (own p d e) (own (other p) d e)
+        (side Ends Agrees (actOf shared s (this p L .machine) none) (stateAt p) queue unused) (sideThere p)
+    idle-in-step p queue unused o q u =
+        subst₃ (λ x w k. InStep Ends Agrees p (own p d e) (own (other p) d e)
+        (side Ends Agrees (actOf shared s (this p L .machine) x) (stateAt p) w k) (sideThere p)) o q u (in-step p)
+
+    first-known :
+        (x : End) (p : QueuedPacket) (queue : List QueuedPacket) → Sound x → x .queue ≡ p ∷ queue →
+        KnownGiven (aPacket p) × AllKnown queue
+    first-known x p queue k q = subst AllKnown q (k .queued)
 
     open-given :
         (x : End) (g : Given) (answers : List ℕ) → Sound x → x .openStep
@@ -361,178 +341,154 @@ module _ (shared : Shared) (s : Start) where
         KnownGiven g
     open-given x g answers k o = subst KnownOpen o (k .opened)
 
-    first-known :
-        (x : End) (p : QueuedPacket) (queue : List QueuedPacket) → Sound x → x .queue ≡ p ∷ queue →
-        KnownGiven (aPacket p) × AllKnown queue
-    first-known x p queue k q = subst AllKnown q (k .queued)
+    packet-moved :
+        (p : Party) (x : QueuedPacket) (queue : List QueuedPacket) (answers : List ℕ) → this p L .openStep ≡ none →
+        this p L .queue ≡ x ∷ queue → reportDue (this p L .due) ≡ false →
+        FairHost shared (roleOf p) L (aPacket x) answers →
+        Fewer d e (suc n) (linkAfter shared (roleOf p) L (aPacket x) answers queue (this p L .due)
+        (callsAt shared (roleOf p) L (aPacket x) answers))
+    unfolding callsAt playOf
+    packet-moved p x queue answers o q u f =
+        let known = first-known (this p L) x queue (sound p) q in
+        moved (aPacket x) answers queue (this p L .due) (callsAt shared (roleOf p) L (aPacket x) answers) p
+        (suc (inputsAt p)) (suc n) (unusedAt p) false
+        (record {
+          counted = omega (arith, same-inputs p);
+          known = known .0;
+          queued = known .1;
+          oobOnce = sound p .oobOnce;
+          headFirst = head-first p;
+        }) refl refl
+        (packet-kept Ends Agrees hosts p (own p d e) (own (other p) d e) (this p L .machine) (stateAt p) queue answers
+        (sideThere p) (unusedAt p) x u (f .octets, f .fair) (idle-in-step p (x ∷ queue) (unusedAt p) o q refl))
 
-    -- counted as the link counts
-    recounted : (m₁ m₂ : ℕ) (L₁ : Link) → m₁ ≡ m₂ → Fewer d e m₁ L₁ → Fewer d e m₂ L₁
-    recounted m₁ m₂ L₁ q z = subst (λ m. Fewer d e m L₁) q z
-
-    module _ (ε : Due) (earlier later : List Due) (answers : List ℕ) where
-      terminal-event :
-          L .terminal .due ≡ earlier ++ (ε ∷ later) →
-          TerminalAfter (anEvent ε) answers (L .terminal .queue)
-          (earlier ++ later) (callsAt shared Central L (anEvent ε) answers) (suc (h .terminalInputs))
-          (unusedSignals (hadOobAfter (anEvent ε) (L .terminal .hadOob)) (L .head .hadOob)) 0 →
-          (hadOobAfter (anEvent ε) (L .terminal .hadOob) ≡ true → L .head .hadOob ≡ true) →
-          Fewer d e (suc n) (linkAfter shared Central L (anEvent ε) answers (L .terminal .queue) (earlier ++ later)
-          (callsAt shared Central L (anEvent ε) answers))
-      terminal-event q z first =
-          recounted (suc (h .terminalInputs) + h .headInputs) (suc n) _ (omega (arith, h .total))
-          (terminal-moved (anEvent ε) answers (L .terminal .queue) (earlier ++ later)
-          (callsAt shared Central L (anEvent ε) answers) (suc (h .terminalInputs)) z tt (h .terminalSound .queued)
-          (event-oobs ε earlier later (L .terminal .due) (L .terminal .hadOob) (hasListed 0x25 (L .terminal .calls)) q
-          (h .terminalSound .oobOnce))
-          first)
-
-      head-event :
-          L .head .due ≡ earlier ++ (ε ∷ later) →
-          HeadAfter (anEvent ε) answers
-          (L .head .queue)
-          (earlier ++ later) (callsAt shared Peripheral L (anEvent ε) answers) (suc (h .headInputs)) 0
-          (unusedSignals (L .terminal .hadOob) (hadOobAfter (anEvent ε) (L .head .hadOob))) →
-          (L .terminal .hadOob ≡ true → hadOobAfter (anEvent ε) (L .head .hadOob) ≡ true) →
-          Fewer d e (suc n) (linkAfter shared Peripheral L (anEvent ε) answers (L .head .queue) (earlier ++ later)
-          (callsAt shared Peripheral L (anEvent ε) answers))
-      head-event q z first =
-          recounted (h .terminalInputs + suc (h .headInputs)) (suc n) _ (omega (arith, h .total))
-          (head-moved (anEvent ε) answers (L .head .queue) (earlier ++ later)
-          (callsAt shared Peripheral L (anEvent ε) answers) (suc (h .headInputs)) z tt (h .headSound .queued)
-          (event-oobs ε earlier later (L .head .due) (L .head .hadOob) (hasListed 0x25 (L .head .calls)) q
-          (h .headSound .oobOnce))
-          first)
-
-    -- the terminal's OOB data: the head's signal is used
-    terminal-oob :
-        (earlier later : List Due) (answers : List ℕ) → L .terminal .openStep ≡ none →
-        L .terminal .due ≡ earlier ++ (oobData ∷ later) → L .head .hadOob ≡ true →
-        FairHost shared Central L (anEvent oobData) answers →
-        Fewer d e (suc n) (linkAfter shared Central L (anEvent oobData) answers (L .terminal .queue) (earlier ++ later)
-        (callsAt shared Central L (anEvent oobData) answers))
-    terminal-oob earlier later answers o q u f =
-        let unhad = not-had earlier later (L .terminal .due) (L .terminal .hadOob) (hasListed 0x25 (L .terminal .calls)) q
-        (h .terminalSound .oobOnce) in
-        let before : unusedNow ≡ 1 = rw (u, unhad) refl in
-        let after : unusedSignals true (L .head .hadOob) ≡ 0 = rw u refl in
-        terminal-event oobData earlier later answers q
-        (subst (λ x. TerminalAfter (anEvent oobData) answers
-        (L .terminal .queue) (earlier ++ later) (callsAt shared Central L (anEvent oobData) answers)
-        (suc (h .terminalInputs)) x 0) (sym after)
-        (behind-step opener L (L .head) d e (h .terminalInputs) (h .headInputs) 0 oobData earlier later answers 0 o q
-        refl f
-        (subst (λ x. InStepThere opener L (L .head) d e (h .terminalInputs) (h .headInputs) 0 x) before (h .inStep))))
-        (λ had. u)
-
-    -- the head's OOB data: it signals
-    head-oob :
-        (earlier later : List Due) (answers : List ℕ) → L .head .openStep ≡ none →
-        L .head .due ≡ earlier ++ (oobData ∷ later) → FairHost shared Peripheral L (anEvent oobData) answers →
-        Fewer d e (suc n) (linkAfter shared Peripheral L (anEvent oobData) answers (L .head .queue) (earlier ++ later)
-        (callsAt shared Peripheral L (anEvent oobData) answers))
-    head-oob earlier later answers o q f =
-        let unhad = not-had earlier later (L .head .due) (L .head .hadOob) (hasListed 0x25 (L .head .calls)) q
-        (h .headSound .oobOnce) in
-        head-event oobData earlier later answers q
-        (subst (λ x. HeadAfter (anEvent oobData)
-        answers (L .head .queue) (earlier ++ later) (callsAt shared Peripheral L (anEvent oobData) answers)
-        (suc (h .headInputs)) 0 x) (signed (L .terminal .hadOob) (L .head .hadOob) unhad (h .headFirst))
-        (event-step replier L (L .terminal) e d (h .headInputs) (h .terminalInputs) unusedNow oobData earlier later
-        answers 0 o q refl f head-in-step))
-        (λ had. refl)
+    module _ (p : Party) (ε : Due) (earlier later : List Due) (answers : List ℕ)
+        (o : this p L .openStep ≡ none) (q : this p L .due ≡ earlier ++ (ε ∷ later))
+        (f : FairHost shared (roleOf p) L (anEvent ε) answers)
+        (first : HeadFirst p (hadAfter p (anEvent ε)) (that p L .hadOob))
       where
-        signed : (x y : Bool) → y ≡ false → (x ≡ true → y ≡ true) → plusOne true (unusedSignals x y)
-            ≡ unusedSignals x true
-        signed true true q first = absurd (true≢false q)
-        signed true false q first = absurd (true≢false (sym (first refl)))
-        signed false true q first = absurd (true≢false q)
-        signed false false q first = refl
+        abbrev eventCalls : List Call
+        eventCalls = callsAt shared (roleOf p) L (anEvent ε) answers
+
+        abbrev EventMoved : Type 1
+        EventMoved =
+            Fewer d e (suc n)
+            (linkAfter shared (roleOf p) L (anEvent ε) answers (this p L .queue) (earlier ++ later) eventCalls)
+
+        sound-event : SoundMove p (anEvent ε) (this p L .queue) (earlier ++ later) (suc (inputsAt p)) (suc n)
+        sound-event =
+            record {
+              counted = omega (arith, same-inputs p);
+              known = tt;
+              queued = sound p .queued;
+              oobOnce =
+                  event-oobs ε earlier later (this p L .due) (this p L .hadOob) (hasListed 0x25 (this p L .calls)) q
+                  (sound p .oobOnce);
+              headFirst = first;
+            }
+
+        -- an event that waits for no signal, and may be one
+        event-moved :
+            heldBack p ε ≡ false →
+            unusedAt p ≡ unusedBy p (hadAfter p (anEvent ε)) (that p L .hadOob) →
+            plusOne (releases p ε) (unusedThere p)
+            ≡ unusedBy (other p) (that p L .hadOob) (hadAfter p (anEvent ε)) →
+            EventMoved
+        unfolding callsAt playOf
+        event-moved u here there =
+            moved (anEvent ε) answers (this p L .queue) (earlier ++ later) eventCalls p (suc (inputsAt p)) (suc n) (unusedAt p)
+            (releases p ε) sound-event here there
+            (event-kept Ends Agrees hosts p (own p d e) (own (other p) d e) (this p L .machine) (stateAt p)
+            (this p L .queue) answers (sideThere p) ε earlier later (unusedAt p) q u (f .octets, f .fair)
+            (idle-in-step p (this p L .queue) (unusedAt p) o refl refl))
+
+        -- an event that waits for a signal, and uses it
+        behind-moved :
+            heldBack p ε ≡ true → unusedAt p ≡ 1 →
+            0 ≡ unusedBy p (hadAfter p (anEvent ε)) (that p L .hadOob) →
+            unusedThere p ≡ unusedBy (other p) (that p L .hadOob) (hadAfter p (anEvent ε)) →
+            EventMoved
+        unfolding callsAt playOf
+        behind-moved u before here there =
+            moved (anEvent ε) answers (this p L .queue) (earlier ++ later) eventCalls p (suc (inputsAt p)) (suc n) 0 false
+            sound-event here there
+            (behind-kept Ends Agrees hosts p (own p d e) (own (other p) d e) (this p L .machine) (stateAt p)
+            (this p L .queue) answers (sideThere p) ε earlier later 0 q u (f .octets, f .fair)
+            (idle-in-step p (this p L .queue) 1 o refl before))
+
+    again-moved :
+        (p : Party) (g : Given) (answers : List ℕ) (x : ℕ) (added : List ℕ) →
+        this p L .openStep ≡ some (record { given = g; answers = answers }) →
+        FairHost shared (roleOf p) L g (answers ++ (x ∷ added)) →
+        Fewer d e n (linkAfter shared (roleOf p) L g (answers ++ (x ∷ added)) (this p L .queue) (this p L .due)
+        (drop (length (callsAt shared (roleOf p) L g answers))
+        (callsAt shared (roleOf p) L g (answers ++ (x ∷ added)))))
+    unfolding callsAt playOf
+    again-moved p g answers x added o f =
+        let had : hadOobAfter g (this p L .hadOob) ≡ this p L .hadOob =
+        subst (λ y. HadBy y (this p L .hadOob)) o (sound p .hadBy) in
+        let new = drop (length (callsAt shared (roleOf p) L g answers))
+        (callsAt shared (roleOf p) L g (answers ++ (x ∷ added))) in
+        moved g (answers ++ (x ∷ added)) (this p L .queue) (this p L .due) new p (inputsAt p) n (unusedAt p) false
+        (record {
+          counted = same-inputs p;
+          known = open-given (this p L) g answers (sound p) o;
+          queued = sound p .queued;
+          oobOnce = rw had (sound p .oobOnce);
+          headFirst = subst (λ b. HeadFirst p b (that p L .hadOob)) (sym had) (head-first p);
+        })
+        (ap (λ b. unusedBy p b (that p L .hadOob)) (sym had))
+        (ap (λ b. unusedBy (other p) (that p L .hadOob) b) (sym had))
+        (again-kept Ends Agrees hosts p (own p d e) (own (other p) d e) (this p L .machine) (stateAt p) (this p L .queue)
+        answers (sideThere p) (unusedAt p) g x added (f .octets, f .fair)
+        (subst (λ y. InStep Ends Agrees p (own p d e) (own (other p) d e)
+        (side Ends Agrees (actOf shared s (this p L .machine) y) (stateAt p) (this p L .queue) (unusedAt p))
+        (sideThere p)) o (in-step p)))
+
+    -- the head's OOB data is a signal ..
+    signal-unused :
+        (terminalHad headHad : Bool) → headHad ≡ false → (terminalHad ≡ true → headHad ≡ true) →
+        plusOne true (unusedBy opener terminalHad headHad) ≡ unusedBy opener terminalHad true
+    signal-unused true true q first = absurd (true≢false q)
+    signal-unused true false q first = absurd (true≢false (sym (first refl)))
+    signal-unused false true q first = absurd (true≢false q)
+    signal-unused false false q first = refl
 
     -- each move, by the end that makes it
     pub kept : (k : MoveKind) (L₁ : Link) → Move shared L k L₁ → Fewer d e (countInput k n) L₁
-    kept k L₁ (takePacket Central p queue answers o q u f) =
-        let known = first-known (L .terminal) p queue (h .terminalSound) q in
-        recounted (suc (h .terminalInputs) + h .headInputs) (suc n) L₁ (omega (arith, h .total))
-        (terminal-moved (aPacket p) answers queue (L .terminal .due) (callsAt shared Central L (aPacket p) answers)
-        (suc (h .terminalInputs))
-        (packet-step opener L (L .head) d e (h .terminalInputs) (h .headInputs) 0 unusedNow p queue answers o q u f
-        (known .0) (h .inStep))
-        (known .0) (known .1) (h .terminalSound .oobOnce) (h .headFirst))
-    kept k L₁ (takePacket Peripheral p queue answers o q u f) =
-        let known = first-known (L .head) p queue (h .headSound) q in
-        recounted (h .terminalInputs + suc (h .headInputs)) (suc n) L₁ (omega (arith, h .total))
-        (head-moved (aPacket p) answers queue (L .head .due) (callsAt shared Peripheral L (aPacket p) answers)
-        (suc (h .headInputs))
-        (packet-step replier L (L .terminal) e d (h .headInputs) (h .terminalInputs) unusedNow 0 p queue answers o q u f
-        (known .0) head-in-step)
-        (known .0) (known .1) (h .headSound .oobOnce) (h .headFirst))
+    kept k L₁ (takePacket Central p queue answers o q u f) = packet-moved opener p queue answers o q u f
+    kept k L₁ (takePacket Peripheral p queue answers o q u f) = packet-moved replier p queue answers o q u f
     kept k L₁ (takeEvent Central passKey earlier later answers o q u f) =
-        terminal-event passKey earlier later answers q
-        (event-step opener L (L .head) d e (h .terminalInputs) (h .headInputs) 0 passKey earlier later answers unusedNow
-        o q refl f (h .inStep))
-        (h .headFirst)
-    kept k L₁ (takeEvent Central oobData earlier later answers o q u f) = terminal-oob earlier later answers o q u f
+        event-moved opener passKey earlier later answers o q f (h .headFirst) refl refl refl
+    kept k L₁ (takeEvent Central oobData earlier later answers o q u f) =
+        let unhad = not-had (L .terminal) earlier later (h .terminalSound) q in
+        behind-moved opener oobData earlier later answers o q f (λ had. u) refl (rw (u, unhad)) (rw u) refl
     kept k L₁ (takeEvent Central encryptionOn earlier later answers o q u f) =
-        terminal-event encryptionOn earlier later answers q
-        (event-step opener L (L .head) d e (h .terminalInputs) (h .headInputs) 0 encryptionOn earlier later answers
-        unusedNow o q refl f (h .inStep))
-        (h .headFirst)
+        event-moved opener encryptionOn earlier later answers o q f (h .headFirst) refl refl refl
     kept k L₁ (takeEvent Peripheral passKey earlier later answers o q u f) =
-        head-event passKey earlier later answers q
-        (event-step replier L (L .terminal) e d (h .headInputs) (h .terminalInputs) unusedNow passKey earlier later
-        answers 0 o q refl f head-in-step)
-        (h .headFirst)
-    kept k L₁ (takeEvent Peripheral oobData earlier later answers o q u f) = head-oob earlier later answers o q f
+        event-moved replier passKey earlier later answers o q f (h .headFirst) refl refl refl
+    kept k L₁ (takeEvent Peripheral oobData earlier later answers o q u f) =
+        let unhad = not-had (L .head) earlier later (h .headSound) q in
+        event-moved replier oobData earlier later answers o q f (λ had. refl) refl refl
+        (signal-unused (L .terminal .hadOob) (L .head .hadOob) unhad (h .headFirst))
     kept k L₁ (takeEvent Peripheral encryptionOn earlier later answers o q u f) =
-        head-event encryptionOn earlier later answers q
-        (event-step replier L (L .terminal) e d (h .headInputs) (h .terminalInputs) unusedNow encryptionOn earlier later
-        answers 0 o q refl f head-in-step)
-        (h .headFirst)
-    kept k L₁ (runAgain Central g answers x added o f) =
-        let known = open-given (L .terminal) g answers (h .terminalSound) o in
-        let had : hadOobAfter g (L .terminal .hadOob) ≡ L .terminal .hadOob =
-        subst (λ y. HadBy y (L .terminal .hadOob)) o (h .terminalSound .hadBy) in
-        let new = drop (length (callsAt shared Central L g answers))
-        (callsAt shared Central L g (answers ++ (x ∷ added))) in
-        let z = again-step opener L (L .head) d e (h .terminalInputs) (h .headInputs) 0 unusedNow g answers x added o f
-        known (h .inStep) in
-        recounted (h .terminalInputs + h .headInputs) n L₁ (h .total)
-        (terminal-moved g (answers ++ (x ∷ added)) (L .terminal .queue) (L .terminal .due) new (h .terminalInputs)
-        (subst (λ b. TerminalAfter g (answers ++ (x ∷ added))
-        (L .terminal .queue) (L .terminal .due) new (h .terminalInputs) (unusedSignals b (L .head .hadOob)) 0) (sym had)
-        z)
-        known (h .terminalSound .queued) (rw had (h .terminalSound .oobOnce)) (rw had (h .headFirst)))
-    kept k L₁ (runAgain Peripheral g answers x added o f) =
-        let known = open-given (L .head) g answers (h .headSound) o in
-        let had : hadOobAfter g (L .head .hadOob) ≡ L .head .hadOob =
-        subst (λ y. HadBy y (L .head .hadOob)) o (h .headSound .hadBy) in
-        let new = drop (length (callsAt shared Peripheral L g answers))
-        (callsAt shared Peripheral L g (answers ++ (x ∷ added))) in
-        let z = again-step replier L (L .terminal) e d (h .headInputs) (h .terminalInputs) unusedNow 0 g answers x added
-        o f known head-in-step in
-        recounted (h .terminalInputs + h .headInputs) n L₁ (h .total)
-        (head-moved g (answers ++ (x ∷ added)) (L .head .queue) (L .head .due) new (h .headInputs)
-        (subst (λ b. HeadAfter g
-        (answers ++ (x ∷ added)) (L .head .queue) (L .head .due) new (h .headInputs) 0
-        (unusedSignals (L .terminal .hadOob) b))
-        (sym had) z)
-        known (h .headSound .queued) (rw had (h .headSound .oobOnce)) (rw had (h .headFirst)))
+        event-moved replier encryptionOn earlier later answers o q f (h .headFirst) refl refl refl
+    kept k L₁ (runAgain Central g answers x added o f) = again-moved opener g answers x added o f
+    kept k L₁ (runAgain Peripheral g answers x added o f) = again-moved replier g answers x added o f
 
     -- ---- no step is refused
 
+    sound-at : (r : Role) → Sound (endOf r L)
+    sound-at Central = h .terminalSound
+    sound-at Peripheral = h .headSound
+
     pub not-refused-move : (k : MoveKind) (L₁ : Link) (x : Move shared L k L₁) → NotRefused (outcomeOf x)
-    not-refused-move k L₁ (takePacket Central p queue answers o q u f) =
-        not-refused shared s Central L (aPacket p) answers (first-known (L .terminal) p queue (h .terminalSound) q .0) f
-    not-refused-move k L₁ (takePacket Peripheral p queue answers o q u f) =
-        not-refused shared s Peripheral L (aPacket p) answers (first-known (L .head) p queue (h .headSound) q .0) f
+    not-refused-move k L₁ (takePacket r p queue answers o q u f) =
+        not-refused shared s r L (aPacket p) answers (first-known (endOf r L) p queue (sound-at r) q .0) f
     not-refused-move k L₁ (takeEvent r ε earlier later answers o q u f) =
         not-refused shared s r L (anEvent ε) answers tt f
-    not-refused-move k L₁ (runAgain Central g answers x added o f) =
-        not-refused shared s Central L g (answers ++ (x ∷ added))
-        (open-given (L .terminal) g answers (h .terminalSound) o) f
-    not-refused-move k L₁ (runAgain Peripheral g answers x added o f) =
-        not-refused shared s Peripheral L g (answers ++ (x ∷ added)) (open-given (L .head) g answers (h .headSound) o) f
+    not-refused-move k L₁ (runAgain r g answers x added o f) =
+        not-refused shared s r L g (answers ++ (x ∷ added)) (open-given (endOf r L) g answers (sound-at r) o) f
 
   -- ---- a move that an end can make is one that the link allows
 
@@ -553,10 +509,26 @@ module _ (shared : Shared) (s : Start) where
   abbrev pub Moving : Link → Type 0
   Moving L = (k : MoveKind) × (L₁ : Link) × Move shared L k L₁
 
-  module _ (p : Party) (L : Link) where
-    abbrev here : End
-    here = endOf (roleOf p) L
+  may-take-freely : (p : Party) (L : Link) (ε : Due) → heldBack p ε ≡ false → MayTake L (roleOf p) ε
+  may-take-freely opener L passKey u = tt
+  may-take-freely opener L oobData u = absurd (true≢false u)
+  may-take-freely opener L encryptionOn u = tt
+  may-take-freely replier L ε u = tt
 
+  -- a signal that is not used is the head's
+  may-take-behind :
+      (p : Party) (L : Link) (ε : Due) (n : ℕ) → unusedBy p (this p L .hadOob) (that p L .hadOob) ≡ suc n →
+      MayTake L (roleOf p) ε
+  may-take-behind opener L passKey n q = tt
+  may-take-behind opener L oobData n q = go (L .terminal .hadOob) (L .head .hadOob) q
+    where
+      go : (x y : Bool) → unusedBy opener x y ≡ suc n → y ≡ true
+      go x true q = refl
+      go x false q = absurd (omega (arith, q))
+  may-take-behind opener L encryptionOn n q = tt
+  may-take-behind replier L ε n q = tt
+
+  module _ (p : Party) (L : Link) where
     -- the open step of an act, with a fair host, wants
     abbrev OpenOf : Act Ends Agrees → Type 0
     OpenOf (Act.idle m) = ⊥
@@ -564,63 +536,43 @@ module _ (shared : Shared) (s : Start) where
         let program = handleInput (roleOf p) m (inputOf shared m i) (payloadOf i) in
         AreOctets answers × FairAnswers shared program answers 0 × (play replyAt answers program 0 .ending ≡ wanting)
 
-    again-moves : (o : Option OpenStep) → here .openStep ≡ o → OpenOf (actOf shared s (here .machine) o) → Moving L
+    again-moves :
+        (o : Option OpenStep) → this p L .openStep ≡ o → OpenOf (actOf shared s (this p L .machine) o) → Moving L
     again-moves none q h = absurd h
     again-moves (some o) q h =
-        let z = more-answers shared
-        (handleInput (roleOf p) (here .machine) (inputOf shared (here .machine) (o .given)) (payloadOf (o .given)))
+        let m = this p L .machine in
+        let z = more-answers shared (handleInput (roleOf p) m (inputOf shared m (o .given)) (payloadOf (o .given)))
         (o .answers) (h .0) (h .1) (h .2) in
         (aReRun, _, runAgain (roleOf p) (o .given) (o .answers) (z .0) (z .1) q (record { octets = z .2; fair = z .3 }))
 
-    event-moves : (m : Machine) (ε : Due) → actOf shared s (here .machine) (here .openStep) ≡ Act.idle m → here .due ≡ ε
-        ∷ [] → MayTake L (roleOf p) ε → Moving L
+    event-moves :
+        (m : Machine) (ε : Due) → actOf shared s (this p L .machine) (this p L .openStep) ≡ Act.idle m →
+        this p L .due ≡ ε ∷ [] → MayTake L (roleOf p) ε → Moving L
     event-moves m ε e q may = (
       anInput,
       _,
-      takeEvent (roleOf p) ε [] [] [] (idle-none (here .machine) m (here .openStep) e) q may
+      takeEvent (roleOf p) ε [] [] [] (idle-none (this p L .machine) m (this p L .openStep) e) q may
           (no-answers shared (roleOf p) L (anEvent ε)),
     )
 
-  may-take-freely : (p : Party) (L : Link) (ε : Due) → heldBack p ε ≡ false → MayTake L (roleOf p) ε
-  may-take-freely opener L passKey u = tt
-  may-take-freely opener L oobData u = absurd (true≢false u)
-  may-take-freely opener L encryptionOn u = tt
-  may-take-freely replier L ε u = tt
-
-  -- of the signals, the link has what the terminal may use
-  abbrev Signed : Party → Link → ℕ → Type 0
-  Signed opener L n = n ≡ unusedSignals (L .terminal .hadOob) (L .head .hadOob)
-  Signed replier L n = n ≡ 0
-
-  may-take-behind : (p : Party) (L : Link) (ε : Due) (n n₁ : ℕ) → Signed p L n → n ≡ suc n₁ → heldBack p ε ≡ true →
-      MayTake L (roleOf p) ε
-  may-take-behind opener L passKey n n₁ h q u = tt
-  may-take-behind opener L oobData n n₁ h q u = go (L .terminal .hadOob) (L .head .hadOob) (sym h ∙ q)
-    where
-      go : (x y : Bool) → unusedSignals x y ≡ suc n₁ → y ≡ true
-      go x true q = refl
-      go x false q = absurd (omega (arith, q))
-  may-take-behind opener L encryptionOn n n₁ h q u = tt
-  may-take-behind replier L ε n n₁ h q u = tt
-
-  can-moves :
-      (p : Party) (L : Link) (k n : ℕ) → Signed p L n →
-      Can Ends Agrees p (sideOf shared s k n (endOf (roleOf p) L)) → Moving L
-  can-moves p L k n h (packet-can m x w e q v) = (
-    anInput,
-    _,
-    takePacket (roleOf p) x w [] (idle-none (here p L .machine) m (here p L .openStep) e) q (rw v refl)
-        (no-answers shared (roleOf p) L (aPacket x)),
-  )
-  can-moves p L k n h (event-can m ε e v u) = event-moves p L m ε e v (may-take-freely p L ε u)
-  can-moves p L k n h (behind-can m ε n₁ e v u q) = event-moves p L m ε e v (may-take-behind p L ε n n₁ h q u)
-  can-moves p L k n h (again-can m i answers e host w) =
-      again-moves p L (here p L .openStep) refl (subst (OpenOf p L) (sym e) (host .0, host .1, w))
+    can-moves :
+        (k : ℕ) →
+        Can Ends Agrees p (sideOf shared s k (unusedBy p (this p L .hadOob) (that p L .hadOob)) (this p L)) → Moving L
+    can-moves k (packet-can m x w e q v) = (
+      anInput,
+      _,
+      takePacket (roleOf p) x w [] (idle-none (this p L .machine) m (this p L .openStep) e) q (rw v refl)
+          (no-answers shared (roleOf p) L (aPacket x)),
+    )
+    can-moves k (event-can m ε e v u) = event-moves m ε e v (may-take-freely p L ε u)
+    can-moves k (behind-can m ε n e v u q) = event-moves m ε e v (may-take-behind p L ε n q)
+    can-moves k (again-can m i answers e host w) =
+        again-moves (this p L .openStep) refl (subst OpenOf (sym e) (host .0, host .1, w))
 
   -- both ends as sides, and that all is over there
   abbrev pub terminalSide : {d e n : ℕ} {L : Link} → LinkInStep d e n L → Side Ends Agrees
   terminalSide {L = L} h =
-      sideOf shared s (h .terminalInputs) (unusedSignals (L .terminal .hadOob) (L .head .hadOob)) (L .terminal)
+      sideOf shared s (h .terminalInputs) (unusedBy opener (L .terminal .hadOob) (L .head .hadOob)) (L .terminal)
 
   abbrev pub headSide : {d e n : ℕ} {L : Link} → LinkInStep d e n L → Side Ends Agrees
   headSide {L = L} h = sideOf shared s (h .headInputs) 0 (L .head)
@@ -636,7 +588,6 @@ module _ (shared : Shared) (s : Start) where
       go :
           (Can Ends Agrees opener (terminalSide h)
           ⊎ Can Ends Agrees replier (headSide h)) ⊎ AllOver h → Moving L ⊎ AllOver h
-      go (inl (inl c)) =
-          inl (can-moves opener L (h .terminalInputs) (unusedSignals (L .terminal .hadOob) (L .head .hadOob)) refl c)
-      go (inl (inr c)) = inl (can-moves replier L (h .headInputs) 0 refl c)
+      go (inl (inl c)) = inl (can-moves opener L (h .terminalInputs) c)
+      go (inl (inr c)) = inl (can-moves replier L (h .headInputs) c)
       go (inr o) = inr o

@@ -484,7 +484,7 @@ module _ (S : System) (Goal : S .Machine → exchange.Local S → S .Machine →
   can-or-rests r d x to from Y held h =
       moves r d (x .act) (x .state .log) (x .state .due) (x .state .inputs) (x .queue) (x .unused) to from Y held h
 
-  -- an end that rests is not the one whose turn S Goal it is, and has nothing due where the protocol finishes
+  -- an end that rests is not the one whose turn it is, and has nothing due where the protocol finishes
   module _ (d : ℕ) (r : Party) (l : Local) (m : Machine) where
     -- after an event
     abbrev Next : Event → Protocol → Type 1

@@ -301,7 +301,7 @@ module _ (shared : Shared) (s : Start) where
   abbrev pub HeadFollows : ℕ → PairingProtocol → Local (pairing shared) → Program (pairing shared) → Type 1
   HeadFollows d g l p = Follows (pairing shared) Agreed d replier g l p
 
-  -- .. once an a .features is sent
+  -- .. once an answer is sent
   module _ (a : Answer s) where
     -- c1 and the encryption that is called for, as both ends should compute them
     abbrev pub confirmOf : Nonce → Confirm
@@ -388,7 +388,7 @@ module _ (shared : Shared) (s : Start) where
         (λ k. sends r Address packet.IdentityAddressInformation (λ x. g))
     identityKey r false g = g
 
-    -- the terminal's keys, as the s .request names them
+    -- the terminal's keys, as the request names them
     abbrev pub terminalEncryption : Bool → PairingProtocol → PairingProtocol
     terminalEncryption true g = encryptionKey opener (λ x. g)
     terminalEncryption false g = g
@@ -399,7 +399,7 @@ module _ (shared : Shared) (s : Start) where
         (identityKey opener (namesIdentityKey (s .request .«initiator_key_distribution»))
         (ending e x due))
 
-    -- the head's keys before them, as the a .features names them
+    -- the head's keys before them, as the answer names them
     abbrev pub headIdentity : (e : Encryption) (x : Option SentKeys) → SentIfClaimed s a x → PairingProtocol
     headIdentity e x due =
         identityKey replier (namesIdentityKey (a .features .«responder_key_distribution»)) (terminalKeys e x due)
@@ -441,7 +441,7 @@ module _ (shared : Shared) (s : Start) where
     afterResponse method.OutOfBand =
         Protocol.signal replier (FairData aNonce) (λ x. queued (packet.PairingConfirm (confirmOf (x .0)))) afterMconfirm
 
-  -- the s .request, and the response
+  -- the request, and the response
   abbrev pub afterRequest : PairingProtocol
   afterRequest =
       sends replier (Answer s) (λ a. packet.PairingResponse (a .features)) (λ a. afterResponse a (chosen s a))
