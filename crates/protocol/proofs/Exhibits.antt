@@ -164,16 +164,16 @@ calls-grow :
     {shared : Shared} {L L₁ : Link} {moves inputs : ℕ} → Moves shared L moves inputs L₁ →
     (more : List Call) × (L₁ .head .calls ≡ L .head .calls ++ more)
 calls-grow {L = L} noMove = ([], sym (append-nil (L .head .calls)))
-calls-grow {L = L} {L₁ = L₁} (move (takePacket Central p queue answers o q u f) xs) = calls-grow xs
-calls-grow {L = L} {L₁ = L₁} (move (takePacket Peripheral p queue answers o q u f) xs) =
+calls-grow (move (takePacket Central p queue answers o q u f) xs) = calls-grow xs
+calls-grow {L = L} (move (takePacket Peripheral p queue answers o q u f) xs) =
     let z = calls-grow xs in
     (_, z .1 ∙ append-assoc (L .head .calls) _ (z .0))
-calls-grow {L = L} {L₁ = L₁} (move (takeEvent Central e earlier later answers o q u f) xs) = calls-grow xs
-calls-grow {L = L} {L₁ = L₁} (move (takeEvent Peripheral e earlier later answers o q u f) xs) =
+calls-grow (move (takeEvent Central e earlier later answers o q u f) xs) = calls-grow xs
+calls-grow {L = L} (move (takeEvent Peripheral e earlier later answers o q u f) xs) =
     let z = calls-grow xs in
     (_, z .1 ∙ append-assoc (L .head .calls) _ (z .0))
-calls-grow {L = L} {L₁ = L₁} (move (runAgain Central g answers x added o f) xs) = calls-grow xs
-calls-grow {L = L} {L₁ = L₁} (move (runAgain Peripheral g answers x added o f) xs) =
+calls-grow (move (runAgain Central g answers x added o f) xs) = calls-grow xs
+calls-grow {L = L} (move (runAgain Peripheral g answers x added o f) xs) =
     let z = calls-grow xs in
     (_, z .1 ∙ append-assoc (L .head .calls) _ (z .0))
 
