@@ -242,13 +242,13 @@ module _ (shared : Shared) (s : Start) where
 
     -- what is asked of it besides: what it is given, the packets and events that it leaves, and the inputs after it, of
     -- the end and of both
-    pub record SoundMove (p : Party) (g : Given) (queue : List QueuedPacket) (due : List Due) (inputs total : ℕ) : Type 0
+    record SoundMove (p : Party) (g : Given) (queue : List QueuedPacket) (due : List Due) (inputs total : ℕ) : Type 0
       where
-        pub counted : inputs + inputsAt (other p) ≡ total
-        pub known : KnownGiven g
-        pub queued : AllKnown queue
-        pub oobOnce : oobs due + one (hadAfter p g) ≡ one (hasListed 0x25 (this p L .calls))
-        pub headFirst : HeadFirst p (hadAfter p g) (that p L .hadOob)
+        counted : inputs + inputsAt (other p) ≡ total
+        known : KnownGiven g
+        queued : AllKnown queue
+        oobOnce : oobs due + one (hadAfter p g) ≡ one (hasListed 0x25 (this p L .calls))
+        headFirst : HeadFirst p (hadAfter p g) (that p L .hadOob)
 
     module _ (g : Given) (answers : List ℕ) (queue : List QueuedPacket) (due : List Due) (new : List Call) where
       -- the link after it is in step, if the ends after it are
