@@ -223,9 +223,9 @@ module _ (shared : Shared) (s : Start) where
         (sideOf shared s (h .terminalInputs) (unusedAt opener) (L .terminal)) (sideOf shared s (h .headInputs) 0 (L .head))
         (h .inStep)
 
-    sound : (p : Party) → Sound (this p L)
-    sound opener = h .terminalSound
-    sound replier = h .headSound
+    sound : (r : Role) → Sound (endOf r L)
+    sound Central = h .terminalSound
+    sound Peripheral = h .headSound
 
     head-first : (p : Party) → HeadFirst p (this p L .hadOob) (that p L .hadOob)
     head-first opener = h .headFirst
@@ -349,14 +349,14 @@ module _ (shared : Shared) (s : Start) where
         (callsAt shared (roleOf p) L (aPacket x) answers))
     unfolding callsAt playOf
     packet-moved p x queue answers o q u f =
-        let known = first-known (this p L) x queue (sound p) q in
+        let known = first-known (this p L) x queue (sound (roleOf p)) q in
         moved (aPacket x) answers queue (this p L .due) (callsAt shared (roleOf p) L (aPacket x) answers) p
         (suc (inputsAt p)) (suc n) (unusedAt p) false
         (record {
           counted = omega (arith, same-inputs p);
           known = known .0;
           queued = known .1;
-          oobOnce = sound p .oobOnce;
+          oobOnce = sound (roleOf p) .oobOnce;
           headFirst = head-first p;
         }) refl refl
         (packet-kept Ends Agrees hosts p (own p d e) (own (other p) d e) (this p L .machine) (stateAt p) queue answers
@@ -380,10 +380,10 @@ module _ (shared : Shared) (s : Start) where
             record {
               counted = omega (arith, same-inputs p);
               known = tt;
-              queued = sound p .queued;
+              queued = sound (roleOf p) .queued;
               oobOnce =
                   event-oobs ε earlier later (this p L .due) (this p L .hadOob) (hasListed 0x25 (this p L .calls)) q
-                  (sound p .oobOnce);
+                  (sound (roleOf p) .oobOnce);
               headFirst = first;
             }
 
@@ -426,15 +426,15 @@ module _ (shared : Shared) (s : Start) where
     unfolding callsAt playOf
     again-moved p g answers x added o f =
         let had : hadOobAfter g (this p L .hadOob) ≡ this p L .hadOob =
-        subst (λ y. HadBy y (this p L .hadOob)) o (sound p .hadBy) in
+        subst (λ y. HadBy y (this p L .hadOob)) o (sound (roleOf p) .hadBy) in
         let new = drop (length (callsAt shared (roleOf p) L g answers))
         (callsAt shared (roleOf p) L g (answers ++ (x ∷ added))) in
         moved g (answers ++ (x ∷ added)) (this p L .queue) (this p L .due) new p (inputsAt p) n (unusedAt p) false
         (record {
           counted = same-inputs p;
-          known = open-given (this p L) g answers (sound p) o;
-          queued = sound p .queued;
-          oobOnce = rw had (sound p .oobOnce);
+          known = open-given (this p L) g answers (sound (roleOf p)) o;
+          queued = sound (roleOf p) .queued;
+          oobOnce = rw had (sound (roleOf p) .oobOnce);
           headFirst = subst (λ b. HeadFirst p b (that p L .hadOob)) (sym had) (head-first p);
         })
         (ap (λ b. unusedBy p b (that p L .hadOob)) (sym had))
@@ -478,17 +478,13 @@ module _ (shared : Shared) (s : Start) where
 
     -- ---- no step is refused
 
-    sound-at : (r : Role) → Sound (endOf r L)
-    sound-at Central = h .terminalSound
-    sound-at Peripheral = h .headSound
-
     pub not-refused-move : (k : MoveKind) (L₁ : Link) (x : Move shared L k L₁) → NotRefused (outcomeOf x)
     not-refused-move k L₁ (takePacket r p queue answers o q u f) =
-        not-refused shared s r L (aPacket p) answers (first-known (endOf r L) p queue (sound-at r) q .0) f
+        not-refused shared s r L (aPacket p) answers (first-known (endOf r L) p queue (sound r) q .0) f
     not-refused-move k L₁ (takeEvent r ε earlier later answers o q u f) =
         not-refused shared s r L (anEvent ε) answers tt f
     not-refused-move k L₁ (runAgain r g answers x added o f) =
-        not-refused shared s r L g (answers ++ (x ∷ added)) (open-given (endOf r L) g answers (sound-at r) o) f
+        not-refused shared s r L g (answers ++ (x ∷ added)) (open-given (endOf r L) g answers (sound r) o) f
 
   -- ---- a move that an end can make is one that the link allows
 
