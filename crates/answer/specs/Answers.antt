@@ -98,6 +98,11 @@ abbrev pub onFound : {A B : Type 0} → Found A → (A → Found B) → Found B
 onFound (found a) f = f a
 onFound (stopped e) f = stopped e
 
+-- why there is no answer; Wanted where there is one
+abbrev pub stopOf : {A : Type 0} → Found A → Stop
+stopOf (found a) = Wanted
+stopOf (stopped e) = e
+
 -- a forbidden value is refused
 abbrev pub allowed : {A B : Type 0} → Option A → (A → B) → Found B
 allowed none f = stopped Refused

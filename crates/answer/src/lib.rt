@@ -4,7 +4,7 @@ ghost use mathlib.Core.Path.{_≡_};
 ghost use Rattle.host.specs.Calls.{questionKind};
 ghost use Rattle.answer.specs.Answers.{bodyAt, framed, verdictAt, flagAt, irkAt, addressAt, nonceAt, passKeyAt, ltkAt, edivAt, randAt, encryptionAt, bondedAt};
 ghost use Rattle.answer.specs.Answers.{verdictAnswer, flagAnswer, irkAnswer, addressAnswer, nonceAnswer, passKeyAnswer};
-ghost use Rattle.answer.specs.Answers.{ltkAnswer, edivAnswer, randAnswer, encryptionAnswer, bondedAnswer, Within};
+ghost use Rattle.answer.specs.Answers.{ltkAnswer, edivAnswer, randAnswer, encryptionAnswer, bondedAnswer, Within, stopOf};
 use bond::Address;
 use bond::BondInformation;
 use bond::Error;
@@ -107,6 +107,90 @@ pub enum OptionBondResult {
 pub enum BondedEncryptionAnswer {
     BondedEncryption(OptionBondResult),
     Stop(Stop),
+}
+
+impl FlagAnswer {
+    // Why there is no answer; Wanted where there is one.
+    pub fn stop(self) -> Stop
+        ensures { λ r. ⌜ r ≡ stopOf (flagAnswer self) ⌝ }
+    {
+        match self {
+            FlagAnswer::Flag(_) => Stop::Wanted,
+            FlagAnswer::Stop(stop) => stop,
+        }
+    }
+}
+
+impl IrkAnswer {
+    // Why there is no answer; Wanted where there is one.
+    pub fn stop(self) -> Stop
+        ensures { λ r. ⌜ r ≡ stopOf (irkAnswer self) ⌝ }
+    {
+        match self {
+            IrkAnswer::Irk(_) => Stop::Wanted,
+            IrkAnswer::Stop(stop) => stop,
+        }
+    }
+}
+
+impl NonceAnswer {
+    // Why there is no answer; Wanted where there is one.
+    pub fn stop(self) -> Stop
+        ensures { λ r. ⌜ r ≡ stopOf (nonceAnswer self) ⌝ }
+    {
+        match self {
+            NonceAnswer::Nonce(_) => Stop::Wanted,
+            NonceAnswer::Stop(stop) => stop,
+        }
+    }
+}
+
+impl PassKeyAnswer {
+    // Why there is no answer; Wanted where there is one.
+    pub fn stop(self) -> Stop
+        ensures { λ r. ⌜ r ≡ stopOf (passKeyAnswer self) ⌝ }
+    {
+        match self {
+            PassKeyAnswer::PassKey(_) => Stop::Wanted,
+            PassKeyAnswer::Stop(stop) => stop,
+        }
+    }
+}
+
+impl LongTermKeyAnswer {
+    // Why there is no answer; Wanted where there is one.
+    pub fn stop(self) -> Stop
+        ensures { λ r. ⌜ r ≡ stopOf (ltkAnswer self) ⌝ }
+    {
+        match self {
+            LongTermKeyAnswer::LongTermKey(_) => Stop::Wanted,
+            LongTermKeyAnswer::Stop(stop) => stop,
+        }
+    }
+}
+
+impl EdivAnswer {
+    // Why there is no answer; Wanted where there is one.
+    pub fn stop(self) -> Stop
+        ensures { λ r. ⌜ r ≡ stopOf (edivAnswer self) ⌝ }
+    {
+        match self {
+            EdivAnswer::Ediv(_) => Stop::Wanted,
+            EdivAnswer::Stop(stop) => stop,
+        }
+    }
+}
+
+impl RandAnswer {
+    // Why there is no answer; Wanted where there is one.
+    pub fn stop(self) -> Stop
+        ensures { λ r. ⌜ r ≡ stopOf (randAnswer self) ⌝ }
+    {
+        match self {
+            RandAnswer::Rand(_) => Stop::Wanted,
+            RandAnswer::Stop(stop) => stop,
+        }
+    }
 }
 
 // The body at a place: wanted where the answers end there; refused where the kind is another or the body is cut.

@@ -150,12 +150,12 @@ meaning-there anOptionBond b = cond-there (eqb (getD b 0 0) 0) _ _ (present-ther
 
 -- ---- what the body at a place says
 
-abbrev Says : List ℕ → ℕ → ℕ → ℕ → Found (List ℕ) → Type 0
+abbrev pub Says : List ℕ → ℕ → ℕ → ℕ → Found (List ℕ) → Type 0
 Says s at kind size (found b) = (at + size < length s) × (getD s at 0 ≡ kind) × (take size (drop (at + 1) s) ≡ b)
 Says s at kind size (stopped Wanted) = at ≡ length s
 Says s at kind size (stopped Refused) = Unit {0}
 
-body-says : (s : List ℕ) (at kind size : ℕ) → Says s at kind size (bodyAt s at kind size)
+pub body-says : (s : List ℕ) (at kind size : ℕ) → Says s at kind size (bodyAt s at kind size)
 unfolding bodyAt
 body-says s at kind size = go (eqb at (length s)) (ltb (at + size) (length s)) (eqb (getD s at 0) kind) refl refl refl
   where

@@ -80,8 +80,11 @@ Reply c = Holds (replySort c)
 
 -- ---- the reply to a call, read at a place of the answers
 
+abbrev pub deliveryAt : List ℕ → ℕ → ℕ → Found Delivery
+deliveryAt s at kind = onFound (verdictAt s at kind) (λ v. found (deliveryOf v))
+
 abbrev pub replyFound : (sort : Sort) → Call → List ℕ → ℕ → Found (Holds sort)
-replyFound aVerdict c s at = onFound (verdictAt s at (kindOf c)) (λ v. found (deliveryOf v))
+replyFound aVerdict c s at = deliveryAt s at (kindOf c)
 replyFound aFlag c s at = flagAt s at (kindOf c)
 replyFound anIrk c s at = irkAt s at
 replyFound anAddress c s at = addressAt s at

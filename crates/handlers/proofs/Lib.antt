@@ -1,0 +1,5 @@
+pub mod Outcoming
+pub mod Reasons
+pub mod Entering
+pub mod Features
+pub mod Keying

@@ -1,0 +1,5 @@
+pub mod Outcomes
+pub mod Payloads
+pub mod Inputs
+pub mod Keys
+pub mod Phases

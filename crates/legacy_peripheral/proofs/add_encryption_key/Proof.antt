@@ -1,0 +1,14 @@
+use borrow.Author.Needs.{needs}
+use Rattle.legacy_peripheral.proofs.add_encryption_key.Statement.{statement}
+use Rattle.legacy_peripheral.proofs.add_encryption_key.Tie as tie
+
+returns : tie.Need-returns
+returns c = rw (c .before .if1 .taken) (c .set-encryption-key .ensures)
+
+pub add-encryption-key-spec : {M : Type 1} → statement M
+add-encryption-key-spec =
+    tie.close
+    (tie.spec
+    (λ c κs. search needs)
+    returns
+    (λ c. search needs))

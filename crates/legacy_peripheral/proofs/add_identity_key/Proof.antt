@@ -1,0 +1,14 @@
+use borrow.Author.Needs.{needs}
+use Rattle.legacy_peripheral.proofs.add_identity_key.Statement.{statement}
+use Rattle.legacy_peripheral.proofs.add_identity_key.Tie as tie
+
+returns : tie.Need-returns
+returns c = rw (c .before .if1 .taken) (c .set-identity-key .ensures)
+
+pub add-identity-key-spec : {M : Type 1} → statement M
+add-identity-key-spec =
+    tie.close
+    (tie.spec
+    (λ c κs. search needs)
+    returns
+    (λ c. search needs))

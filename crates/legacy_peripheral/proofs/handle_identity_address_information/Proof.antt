@@ -1,0 +1,25 @@
+use Rattle.protocol.specs.LegacyPeripheral.{«handle_identity_address_information»}
+use borrow.Author.Needs.{needs}
+use Rattle.legacy_peripheral.proofs.handle_identity_address_information.Statement.{statement}
+use Rattle.legacy_peripheral.proofs.handle_identity_address_information.Tie as tie
+
+returns : tie.Need-returns
+unfolding «handle_identity_address_information»
+returns c = λ s. rw (c .failed .ensures, ← c .before .before .before .read-identity-address .ensures, c .before .enum-told .given .1)
+
+returns-2 : tie.Need-returns-2
+unfolding «handle_identity_address_information»
+returns-2 c = λ s. rw (c .next .ensures, ← c .before .before .before .before .before .read-identity-address .ensures, c .before .before .before .peer-address .given .1, ← c .before .with-identity-address .ensures)
+
+pub handle-identity-address-information-spec : {M : Type 1} → statement M
+handle-identity-address-information-spec =
+    tie.close
+    (tie.spec
+    (λ c κs. search needs)
+    (λ c. search needs)
+    (λ c. search needs)
+    (λ c κs. search needs)
+    returns
+    (λ c κs. search needs)
+    (λ c κs. search needs)
+    returns-2)

@@ -1,0 +1,7 @@
+pub mod Fields
+pub mod Digits
+pub mod Values
+pub mod Buffers
+pub mod Decimals
+pub mod Texts
+pub mod Samples

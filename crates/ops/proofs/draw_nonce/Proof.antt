@@ -1,0 +1,32 @@
+use mathlib.Core.Path.{sym, ap, _∙_}
+use Rattle.host.specs.declared.call.Draw.the-variants as draw
+use Rattle.host.specs.declared.call.Call.the-variants as call
+use Rattle.answer.specs.Answers.{nonceAnswer}
+use Rattle.ops.proofs.Laws.{none-taken, answer-within}
+use Rattle.ops.specs.Run.{answerTo}
+use borrow.Author.Needs.{needs}
+use Rattle.ops.proofs.draw_nonce.Statement.{statement}
+use Rattle.ops.proofs.draw_nonce.Tie as tie
+
+returns : tie.Need-returns
+unfolding answerTo
+returns c = rw (← c .before .before .before .push .ensures, ← c .before .before .read-nonce .ensures, c .enum-told2 .given .1, none-taken)
+
+behind-requires : tie.Need-behind-requires
+behind-requires c κs = answer-within (call.Draw draw.Nonce) _ _ (sym (c .before .before .read-nonce .ensures) ∙ ap nonceAnswer (c .enum-told .given .1))
+
+returns-2 : tie.Need-returns-2
+unfolding answerTo
+returns-2 c = rw (← c .before .before .before .before .push .ensures, ← c .before .before .before .read-nonce .ensures, c .before .enum-told .given .1, c .behind .ensures)
+
+pub draw-nonce-spec : {M : Type 1} → statement M
+draw-nonce-spec =
+    tie.close
+    (tie.spec
+    (λ c κs. search needs)
+    (λ c κs. search needs)
+    (λ c. search needs)
+    (λ c. search needs)
+    returns
+    behind-requires
+    returns-2)
