@@ -323,12 +323,7 @@ fn handle_identity_information(
 }
 
 // The state that awaits the peer's identity key.
-pub fn waiting_identitity_information(
-    trace: Trace,
-    current: Machine,
-    input: Input,
-    payload: &[u8],
-) -> Outcome
+pub fn waiting_identity(trace: Trace, current: Machine, input: Input, payload: &[u8]) -> Outcome
     ensures { λ r. ⌜ Gives trace (current .«confirm_data») (current .«pairing_data») (onCommand command.IdentityInformation input («handle_identity_information» (current .«pairing_data») (now (payload .entry))) (otherInput current (now (payload .entry)) input)) r ⌝ }
 {
     let confirm_data = current.confirm_data;

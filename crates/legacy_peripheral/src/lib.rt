@@ -63,7 +63,7 @@ use handlers::phases::request_oob_data;
 use handlers::phases::request_pass_key;
 use handlers::phases::settle;
 use handlers::phases::store_confirm_bytes;
-use handlers::phases::waiting_identitity_information;
+use handlers::phases::waiting_identity;
 use host::ConnectionEvent;
 use host::Packet;
 use host::Trace;
@@ -138,14 +138,8 @@ fn transition(
 {
     let state = current.phase;
     match state {
-        Phase::WaitingPairingRequest => waiting_pairing_request(
-            trace,
-            answers,
-            current,
-            input,
-            payload,
-        ),
-        Phase::WaitingPassKeyInput { confirm_bytes } => waiting_pass_key_input(
+        Phase::WaitingPairingRequest => waiting_request(trace, answers, current, input, payload),
+        Phase::WaitingPassKeyInput { confirm_bytes } => waiting_pass_key(
             trace,
             answers,
             current,
@@ -154,14 +148,8 @@ fn transition(
             payload,
         ),
         Phase::WaitingOobData => waiting_oob_data(trace, current, input, payload),
-        Phase::WaitingPairingConfirm => waiting_pairing_confirm(
-            trace,
-            answers,
-            current,
-            input,
-            payload,
-        ),
-        Phase::WaitingPairingRandom { peer_confirm } => waiting_pairing_random(
+        Phase::WaitingPairingConfirm => waiting_confirm(trace, answers, current, input, payload),
+        Phase::WaitingPairingRandom { peer_confirm } => waiting_random(
             trace,
             answers,
             current,
@@ -169,20 +157,9 @@ fn transition(
             input,
             payload,
         ),
-        Phase::WaitingLinkEncrypted => waiting_link_encrypted(
-            trace,
-            answers,
-            current,
-            input,
-            payload,
-        ),
-        Phase::WaitingIdentitityInformation => waiting_identitity_information(
-            trace,
-            current,
-            input,
-            payload,
-        ),
-        Phase::WaitingIdentitityAddressInformation => waiting_identitity_address_information(
+        Phase::WaitingLinkEncrypted => waiting_encrypted(trace, answers, current, input, payload),
+        Phase::WaitingIdentitityInformation => waiting_identity(trace, current, input, payload),
+        Phase::WaitingIdentitityAddressInformation => waiting_address(
             trace,
             current,
             input,
@@ -198,7 +175,7 @@ fn transition(
     }
 }
 
-fn waiting_pairing_request(
+fn waiting_request(
     trace: Trace,
     answers: &[u8],
     current: Machine,
@@ -218,7 +195,7 @@ fn waiting_pairing_request(
     handle_link_encrypted(trace, answers, confirm_data, pairing_data, true, encrypted)
 }
 
-fn waiting_pass_key_input(
+fn waiting_pass_key(
     trace: Trace,
     answers: &[u8],
     current: Machine,
@@ -265,7 +242,7 @@ fn waiting_oob_data(trace: Trace, current: Machine, input: Input, payload: &[u8]
     Outcome::next(trace, with_tk, pairing_data, Phase::WaitingPairingConfirm)
 }
 
-fn waiting_pairing_confirm(
+fn waiting_confirm(
     trace: Trace,
     answers: &[u8],
     current: Machine,
@@ -282,7 +259,7 @@ fn waiting_pairing_confirm(
     other_input(trace, current, input, payload)
 }
 
-fn waiting_pairing_random(
+fn waiting_random(
     trace: Trace,
     answers: &[u8],
     current: Machine,
@@ -307,7 +284,7 @@ fn waiting_pairing_random(
     other_input(trace, current, input, payload)
 }
 
-fn waiting_link_encrypted(
+fn waiting_encrypted(
     trace: Trace,
     answers: &[u8],
     current: Machine,
@@ -324,12 +301,7 @@ fn waiting_link_encrypted(
     handle_link_encrypted(trace, answers, confirm_data, pairing_data, false, encrypted)
 }
 
-fn waiting_identitity_address_information(
-    trace: Trace,
-    current: Machine,
-    input: Input,
-    payload: &[u8],
-) -> Outcome
+fn waiting_address(trace: Trace, current: Machine, input: Input, payload: &[u8]) -> Outcome
     ensures { λ r. ⌜ Comes trace (transitionFrom current (now (payload .entry)) input phase.WaitingIdentitityAddressInformation) r ⌝ }
 {
     let confirm_data = current.confirm_data;

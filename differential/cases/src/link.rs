@@ -1,5 +1,5 @@
-//! Whole fair pairings of a terminal and a head over document 01's fair link, in every method and
-//! in random orders of moves.
+//! Document 01's fair link: a terminal and a head, queues between them, events due, open steps. Plays
+//! whole pairings in every method, in random orders of moves, with random fair hosts.
 
 use std::collections::VecDeque;
 
@@ -12,35 +12,79 @@ use crate::random::Random;
 use crate::vary;
 use crate::Sink;
 
+/// What the start leads to; `Any` leaves all to chance.
 #[derive(Clone, Copy, Debug, PartialEq, Eq)]
-enum Method {
+enum Aim {
     JustWorks,
     TerminalShows,
     HeadShows,
     BothType,
     OutOfBand,
+    Any,
 }
 
-const METHODS: [Method; 5] =
-    [Method::JustWorks, Method::TerminalShows, Method::HeadShows, Method::BothType, Method::OutOfBand];
+const AIMS: [Aim; 6] = [Aim::JustWorks, Aim::TerminalShows, Aim::HeadShows, Aim::BothType, Aim::OutOfBand, Aim::Any];
 
-/// What is the same for a whole run.
-struct Plan {
-    /// The passkey shown and typed.
-    passkey: u32,
-    oob: [u8; 16],
-    /// The head's answers to 0x33 and 0x34.
-    head_bonds: bool,
-    head_oob: bool,
+/// What is free of a fresh pair: the record in the request, the head's own, and both addresses.
+#[derive(Clone, Debug)]
+pub struct Start {
+    pub request: [u8; 6],
+    pub head: [u8; 6],
+    pub terminal_address: [u8; 7],
+    pub head_address: [u8; 7],
+}
+
+impl Start {
+    /// The fresh machines, the terminal's first.
+    pub fn machines(&self) -> [Record; 2] {
+        [
+            fresh(Role::Central, self.terminal_address, self.head_address, self.request),
+            fresh(Role::Peripheral, self.head_address, self.terminal_address, self.head),
+        ]
+    }
+}
+
+/// What both ends' people share: the OOB data, the passkey that is shown and typed, and the one
+/// that is typed where no end shows it.
+#[derive(Clone, Debug)]
+pub struct Shared {
+    pub oob: [u8; 16],
+    pub shown: u32,
+    pub typed: u32,
+}
+
+impl Shared {
+    /// The passkey typed at an end, by the method that its machine holds.
+    pub fn passkey(&self, machine: &Record) -> u32 {
+        match machine[machine::METHOD] {
+            2 | 3 | 6 => self.shown,
+            _ => self.typed,
+        }
+    }
+}
+
+/// How the head's host answers 0x33 and 0x34, and how ready all hosts are to answer at once.
+struct Hosts {
+    bonds: bool,
+    oob: bool,
+    ready: usize,
+}
+
+#[derive(Clone, Copy, PartialEq, Eq)]
+enum Due {
+    PassKey,
+    Oob,
+    Report,
 }
 
 struct End {
     machine: Record,
     queue: VecDeque<(u8, Vec<u8>)>,
-    due: Vec<Input>,
+    due: Vec<Due>,
     open: Option<Open>,
     /// Kinds 0x23, 0x25 and 0x3a that were listed already.
     seen: Vec<u8>,
+    had_oob: bool,
 }
 
 /// A step that has begun, its answer records so far, and how many of its calls have counted.
@@ -50,35 +94,71 @@ struct Open {
     counted: usize,
 }
 
-struct Link {
-    plan: Plan,
-    /// Terminal, head.
-    ends: [End; 2],
-    /// Moves of the first kind so far.
-    inputs: usize,
+/// One move: at which end (0 the terminal), whether a step was run again, the step, the answer
+/// records that it was given, and what it came to.
+#[derive(Clone, Debug)]
+pub struct Move {
+    pub at: usize,
+    pub again: bool,
+    pub given: Step,
+    pub records: Vec<Vec<u8>>,
+    pub answer: Answer,
 }
 
-const ROLES: [Role; 2] = [Role::Central, Role::Peripheral];
+pub struct Link {
+    pub start: Start,
+    pub shared: Shared,
+    hosts: Hosts,
+    /// Terminal, head.
+    ends: [End; 2],
+}
+
+pub const ROLES: [Role; 2] = [Role::Central, Role::Peripheral];
 
 /// I/O of terminal and head that lead to the method, with MITM at the head's side.
-fn io(r: &mut Random, method: Method) -> [u8; 2] {
-    match method {
-        Method::JustWorks => {
+fn io(r: &mut Random, aim: Aim) -> [u8; 2] {
+    match aim {
+        Aim::JustWorks => {
             r.pick(&[[3, 3], [3, 0], [3, 2], [3, 4], [0, 3], [2, 3], [4, 3], [0, 0], [0, 1], [1, 0], [1, 1]])
         }
-        Method::TerminalShows => r.pick(&[[0, 2], [0, 4], [1, 2], [1, 4], [4, 2], [4, 4]]),
-        Method::HeadShows => r.pick(&[[2, 0], [2, 1], [2, 4], [4, 0], [4, 1]]),
-        Method::BothType => [2, 2],
-        Method::OutOfBand => [r.below(5) as u8, r.below(5) as u8],
+        Aim::TerminalShows => r.pick(&[[0, 2], [0, 4], [1, 2], [1, 4], [4, 2], [4, 4]]),
+        Aim::HeadShows => r.pick(&[[2, 0], [2, 1], [2, 4], [4, 0], [4, 1]]),
+        Aim::BothType => [2, 2],
+        Aim::OutOfBand | Aim::Any => [r.below(5) as u8, r.below(5) as u8],
     }
 }
 
 /// OOB octets of request, head's record, and head's answer to 0x34.
-fn oob(r: &mut Random, method: Method) -> (u8, u8, bool) {
-    if method == Method::OutOfBand {
-        return r.pick(&[(1, 1, true), (1, 1, false), (1, 0, true)]);
+fn oob(r: &mut Random, aim: Aim) -> (u8, u8, bool) {
+    match aim {
+        Aim::OutOfBand => r.pick(&[(1, 1, true), (1, 1, false), (1, 0, true)]),
+        Aim::Any => (r.below(2) as u8, r.below(2) as u8, r.chance(50)),
+        _ => r.pick(&[(0, 0, false), (0, 0, false), (0, 1, true), (0, 0, true), (1, 0, false)]),
     }
-    r.pick(&[(0, 0, false), (0, 0, false), (0, 1, true), (0, 0, true), (1, 0, false)])
+}
+
+/// Key flags: those that matter, now and then with others.
+fn flags(r: &mut Random) -> u8 {
+    if r.chance(85) {
+        r.below(16) as u8
+    } else {
+        r.octet()
+    }
+}
+
+fn start(r: &mut Random, aim: Aim, request_oob: u8, head_oob: u8) -> Start {
+    let [terminal_io, head_io] = io(r, aim);
+    let auth = match r.below(8) {
+        0 => r.octet(),
+        _ => r.pick(&[0, 4, 8, 0x0c]) | u8::from(r.chance(75)),
+    };
+    let sizes = [7 + r.below(10) as u8, 7 + r.below(10) as u8];
+    let request = [terminal_io, request_oob, auth, sizes[0], flags(r), flags(r)];
+    // Of the initiator's keys the head's record names none that the request lacks.
+    let initiator = flags(r) & (request[4] | !3);
+    let responder = r.pick(&[0, 0, 0, 1, 2, 3, 8]);
+    let head = [head_io, head_oob, r.octet(), sizes[1], initiator, responder];
+    Start { request, head, terminal_address: machines::address(r), head_address: machines::address(r) }
 }
 
 fn fresh(role: Role, local: [u8; 7], peer: [u8; 7], record: [u8; 6]) -> Record {
@@ -96,52 +176,37 @@ fn fresh(role: Role, local: [u8; 7], peer: [u8; 7], record: [u8; 6]) -> Record {
 }
 
 fn end(machine: Record) -> End {
-    End { machine, queue: VecDeque::new(), due: Vec::new(), open: None, seen: Vec::new() }
+    End { machine, queue: VecDeque::new(), due: Vec::new(), open: None, seen: Vec::new(), had_oob: false }
 }
 
 impl Link {
     /// A fresh pair: the request is queued to the head, nothing else has happened.
-    fn new(r: &mut Random, method: Method) -> Self {
-        let [terminal_io, head_io] = io(r, method);
-        let (request_oob, head_oob, oob_answer) = oob(r, method);
-        let bonds = [r.chance(75), r.chance(75)];
-        let auth = [r.pick(&[0, 4, 8, 0x0c]) | u8::from(bonds[0]), r.octet()];
-        let sizes = [7 + r.below(10) as u8, 7 + r.below(10) as u8];
-        let request = [terminal_io, request_oob, auth[0], sizes[0], r.below(16) as u8, r.below(16) as u8];
-        let flags = [r.octet() & request[4], r.pick(&[0, 0, 0, 1, 2, 3, 8])];
-        let head = [head_io, head_oob, auth[1], sizes[1], flags[0], flags[1]];
-        let (terminal_address, head_address) = (machines::address(r), machines::address(r));
-        let passkey = if method == Method::BothType && r.chance(50) { r.next() as u32 } else { r.passkey() };
-        let plan = Plan { passkey, oob: r.octets(), head_bonds: bonds[1], head_oob: oob_answer };
-        let mut ends = [
-            end(fresh(Role::Central, terminal_address, head_address, request)),
-            end(fresh(Role::Peripheral, head_address, terminal_address, head)),
-        ];
-        ends[1].queue.push_back((0x01, request.to_vec()));
-        Self { plan, ends, inputs: 0 }
+    pub fn new(r: &mut Random) -> Self {
+        let aim = r.pick(&AIMS);
+        let (request_oob, head_oob, oob_answer) = oob(r, aim);
+        let start = start(r, aim, request_oob, head_oob);
+        let typed = if r.chance(50) { r.word() as u32 } else { r.passkey() };
+        let shared = Shared { oob: r.octets(), shown: r.passkey(), typed };
+        let hosts = Hosts { bonds: r.chance(75), oob: oob_answer, ready: r.pick(&[0, 50, 80, 80, 95, 100]) };
+        let mut ends = start.machines().map(end);
+        ends[1].queue.push_back((0x01, start.request.to_vec()));
+        Self { start, shared, hosts, ends }
     }
 
-    /// The inputs that an end without an open step may get now.
-    fn allowed(&self, at: usize) -> Vec<Option<Input>> {
+    /// The inputs that an end without an open step may get now; none stands for its oldest packet.
+    fn allowed(&self, at: usize) -> Vec<Option<Due>> {
         let end = &self.ends[at];
-        let report = end.due.iter().any(|d| matches!(d, Input::LinkEncryptedResult(_)));
-        let head_waits = self.ends[1].due.iter().any(|d| matches!(d, Input::OobDataReceived(_)));
-        let head_asked = self.ends[1].seen.contains(&0x25);
         let mut found = Vec::new();
-        if !end.queue.is_empty() && !report {
+        if !end.queue.is_empty() && !end.due.contains(&Due::Report) {
             found.push(None);
         }
-        for &event in &end.due {
-            let oob_first = at == 0 && matches!(event, Input::OobDataReceived(_)) && (head_waits || !head_asked);
-            if !oob_first {
-                found.push(Some(event));
-            }
-        }
+        let head_first = |due: &Due| at == 0 && *due == Due::Oob && !self.ends[1].had_oob;
+        found.extend(end.due.iter().filter(|due| !head_first(due)).map(|due| Some(*due)));
         found
     }
 
-    /// One random move; false where none is allowed.
-    fn step(&mut self, r: &mut Random, sink: &mut Sink, all: bool) -> bool {
+    /// One random move; none where none is allowed.
+    pub fn play(&mut self, r: &mut Random) -> Option<Move> {
         let mut moves = Vec::new();
         for at in 0..2 {
             if self.ends[at].open.is_some() {
@@ -151,33 +216,35 @@ impl Link {
             }
         }
         if moves.is_empty() {
-            return false;
+            return None;
         }
         let (at, input) = r.pick(&moves);
         let open = match input {
-            Some(input) => self.begin(at, input),
-            None => self.ends[at].open.take(),
+            Some(input) => self.begin(r, at, input)?,
+            None => self.ends[at].open.take()?,
         };
-        if let Some(open) = open {
-            self.run(r, sink, at, open, input.is_none(), all);
-        }
-        true
+        Some(self.run(r, at, open, input.is_none()))
     }
 
-    /// Takes an input out of the queue or of what is due.
-    fn begin(&mut self, at: usize, input: Option<Input>) -> Option<Open> {
-        self.inputs += 1;
+    /// Takes an input out of the queue or of what is due. The list is long enough for any step.
+    fn begin(&mut self, r: &mut Random, at: usize, input: Option<Due>) -> Option<Open> {
         let end = &mut self.ends[at];
         let (input, payload) = match input {
             None => end.queue.pop_front().map(|(code, payload)| (Input::Command(code), payload))?,
-            Some(event) => {
-                end.due.retain(|d| *d != event);
+            Some(due) => {
+                end.due.retain(|d| *d != due);
+                end.had_oob |= due == Due::Oob;
+                let event = match due {
+                    Due::PassKey => Input::PassKeyInput(self.shared.passkey(&end.machine)),
+                    Due::Oob => Input::OobDataReceived(self.shared.oob),
+                    Due::Report => Input::LinkEncryptedResult(true),
+                };
                 (event, Vec::new())
             }
         };
         let given = Step {
             role: ROLES[at],
-            list_len: reference::step::LONGEST,
+            list_len: reference::step::LONGEST + if r.chance(95) { 0 } else { r.below(100) },
             machine: end.machine,
             input,
             payload,
@@ -186,14 +253,15 @@ impl Link {
         Some(Open { given, records: Vec::new(), counted: 0 })
     }
 
-    /// Runs an open step with some more answers, at least one where it is a re-run.
-    fn run(&mut self, r: &mut Random, sink: &mut Sink, at: usize, mut open: Open, rerun: bool, all: bool) {
-        let mut must = rerun;
-        let answer = loop {
+    /// Runs an open step with some more answers, at least one where it is a re-run. What is left
+    /// over behind the answers of a step that ends is free.
+    fn run(&mut self, r: &mut Random, at: usize, mut open: Open, again: bool) -> Move {
+        let mut must = again;
+        let mut answer = loop {
             open.given.answers = open.records.concat();
             let answer = step(&open.given);
             match wanted(&answer) {
-                Some(code) if must || r.chance(80) => {
+                Some(code) if must || r.chance(self.hosts.ready) => {
                     let record = self.fair(r, code, &answer);
                     open.records.push(record);
                     must = false;
@@ -201,51 +269,56 @@ impl Link {
                 _ => break answer,
             }
         };
-        sink.step(&open.given);
-        self.count(at, &answer, &mut open.counted);
-        if answer.outcome == Outcome::Wants {
-            self.ends[at].open = Some(open);
-            return;
+        let mut given = open.given.clone();
+        if answer.outcome == Outcome::Ended && r.chance(10) {
+            let length = 1 + r.below(30);
+            given.answers.extend(r.some(length));
+            answer = step(&given);
         }
-        self.ends[at].machine = answer.machine;
-        let (given, records) = (&open.given, &open.records);
-        vary::prefixes(sink, given, records);
-        vary::cuts(r, sink, given, records, all);
-        vary::leftover(r, sink, given, records);
+        let counted = self.count(at, &answer, open.counted);
+        let records = open.records.clone();
+        if answer.outcome == Outcome::Wants {
+            self.ends[at].open = Some(Open { counted, ..open });
+        } else {
+            self.ends[at].machine = answer.machine;
+        }
+        Move { at, again, given, records, answer }
     }
 
-    /// A call counts once, when first listed: a packet is queued, an event falls due.
-    fn count(&mut self, at: usize, answer: &Answer, counted: &mut usize) {
+    /// A call counts once, when first listed: a packet is queued, an event falls due. Gives how
+    /// many calls have counted now.
+    fn count(&mut self, at: usize, answer: &Answer, counted: usize) -> usize {
         let Some(listed) = calls::records(&answer.list[..answer.written]) else {
-            return;
+            return counted;
         };
-        for (kind, body) in &listed[*counted..] {
-            let first = !self.ends[at].seen.contains(&kind.code);
+        for (kind, body) in &listed[counted..] {
             let due = match kind.code {
-                0x23 => Some(Input::PassKeyInput(self.plan.passkey)),
-                0x25 => Some(Input::OobDataReceived(self.plan.oob)),
-                0x3a => Some(Input::LinkEncryptedResult(true)),
-                code if code < 0x20 => {
-                    self.ends[1 - at].queue.push_back((code, body.to_vec()));
-                    None
+                0x23 => Due::PassKey,
+                0x25 => Due::Oob,
+                0x3a => Due::Report,
+                code => {
+                    if code < 0x20 {
+                        self.ends[1 - at].queue.push_back((code, body.to_vec()));
+                    }
+                    continue;
                 }
-                _ => None,
             };
-            if let (Some(event), true) = (due, first) {
-                self.ends[at].seen.push(kind.code);
-                self.ends[at].due.push(event);
+            let end = &mut self.ends[at];
+            if !end.seen.contains(&kind.code) {
+                end.seen.push(kind.code);
+                end.due.push(due);
             }
         }
-        *counted = listed.len();
+        listed.len()
     }
 
-    /// A fair answer: the plan's flags and passkey; a bond with the key that was asked for.
+    /// A fair answer: the passkey that is shown; mostly a bond with the key that was asked for.
     fn fair(&self, r: &mut Random, code: u8, answer: &Answer) -> Vec<u8> {
         let mut record = fitting(r, code, Mood::Willing);
         match code {
-            0x33 => record[1] = self.plan.head_bonds.into(),
-            0x34 => record[1] = self.plan.head_oob.into(),
-            0x36 => record[1..].copy_from_slice(&self.plan.passkey.to_le_bytes()),
+            0x33 => record[1] = self.hosts.bonds.into(),
+            0x34 => record[1] = self.hosts.oob.into(),
+            0x36 => record[1..].copy_from_slice(&self.shared.shown.to_le_bytes()),
             0x3a if r.chance(70) => {
                 let body = &answer.list[answer.written - 18..answer.written];
                 record[2..18].copy_from_slice(&body[..16]);
@@ -258,81 +331,16 @@ impl Link {
     }
 }
 
-/// One whole fair pairing.
+/// One whole fair pairing, each step that ends with variations of its answers.
 pub fn pairing(r: &mut Random, sink: &mut Sink) {
-    let method = r.pick(&METHODS);
-    let mut link = Link::new(r, method);
+    let mut link = Link::new(r);
     let all = r.chance(10);
-    while link.step(r, sink, all) {}
-}
-
-#[cfg(test)]
-mod tests {
-    use super::*;
-
-    /// What a run that has ended shows.
-    struct Run {
-        inputs: usize,
-        terminal: Record,
-        head: Record,
-    }
-
-    fn run(r: &mut Random, method: Method) -> Run {
-        let mut sink = Sink::new(Box::new(std::io::sink()), usize::MAX);
-        let mut link = Link::new(r, method);
-        while link.step(r, &mut sink, false) {}
-        for end in &link.ends {
-            assert!(end.open.is_none() && end.queue.is_empty() && end.due.is_empty());
+    while let Some(Move { given, records, answer, .. }) = link.play(r) {
+        sink.step(&given);
+        if answer.outcome != Outcome::Wants {
+            vary::prefixes(sink, &given, &records);
+            vary::cuts(r, sink, &given, &records, all);
+            vary::leftover(r, sink, &given, &records);
         }
-        Run { inputs: link.inputs, terminal: link.ends[0].machine, head: link.ends[1].machine }
-    }
-
-    /// Whether request and answer both carry the bonding flag, as the terminal knows them.
-    fn both_bond(terminal: &Record) -> bool {
-        terminal[machine::LOCAL_FEATURES + 2] & 3 == 1 && terminal[machine::PEER_FEATURES + 2] & 3 == 1
-    }
-
-    /// Document 01: 8 inputs, and the entries, and twice the keys.
-    fn expected_inputs(method: Method, terminal: &Record) -> usize {
-        let entries = match method {
-            Method::JustWorks => 0,
-            Method::TerminalShows | Method::HeadShows => 1,
-            Method::BothType | Method::OutOfBand => 2,
-        };
-        let answer = &terminal[machine::PEER_FEATURES..][..6];
-        let named = (answer[4] & 3).count_ones() + (answer[5] & 3).count_ones();
-        let keys = if both_bond(terminal) { named } else { 0 };
-        8 + entries + 2 * keys as usize
-    }
-
-    /// Many runs: the terminal ends in Success, and the head too, but for one that waits for an
-    /// identity key which the request named and which, without bonding, is never sent.
-    #[test]
-    fn fair_runs_end() {
-        let mut r = Random::new(11);
-        for i in 0..2000 {
-            let method = METHODS[i % 5];
-            let run = run(&mut r, method);
-            let identity_named = run.terminal[machine::LOCAL_FEATURES + 4] & 2 == 2;
-            let head = if !both_bond(&run.terminal) && identity_named { 6 } else { 9 };
-            assert_eq!((run.terminal[0], run.head[0]), (9, head), "{method:?}");
-            assert_eq!(run.inputs, expected_inputs(method, &run.terminal), "{method:?}");
-            assert!(run.inputs <= 18);
-        }
-    }
-
-    /// If both bond and the answer names the responder's encryption key, both bonds hold the same
-    /// cut LTK, EDIV and Rand.
-    #[test]
-    fn both_ends_store_the_same_key() {
-        let (mut r, mut seen) = (Random::new(12), 0);
-        for i in 0..2000 {
-            let run = run(&mut r, METHODS[i % 5]);
-            if both_bond(&run.terminal) && run.terminal[machine::PEER_FEATURES + 5] & 1 == 1 {
-                seen += 1;
-                assert_eq!(run.terminal[machine::BOND..][..26], run.head[machine::BOND..][..26]);
-            }
-        }
-        assert!(seen > 100);
     }
 }

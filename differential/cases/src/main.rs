@@ -2,115 +2,10 @@
 //!
 //! The last line has no line feed, which makes it malformed, as the step lines say.
 
-mod answers;
-mod link;
-mod machines;
-mod malformed;
-mod random;
-mod sweep;
-mod vary;
-
-use std::io::{self, Write};
+use std::io;
 use std::process::ExitCode;
 
-use random::Random;
-use reference::{lines, Step};
-
-/// Takes lines until there are enough.
-pub struct Sink {
-    out: Box<dyn Write>,
-    left: usize,
-    error: Option<io::Error>,
-    line: Vec<u8>,
-}
-
-impl Sink {
-    fn new(out: Box<dyn Write>, count: usize) -> Self {
-        Self { out, left: count, error: None, line: Vec::new() }
-    }
-
-    pub fn step(&mut self, given: &Step) {
-        let mut line = std::mem::take(&mut self.line);
-        line.clear();
-        lines::push_step(&mut line, given);
-        self.raw(&line);
-        self.line = line;
-    }
-
-    /// A line without its line feed.
-    pub fn raw(&mut self, line: &[u8]) {
-        if self.left == 0 || self.error.is_some() {
-            return;
-        }
-        self.left -= 1;
-        let end: &[u8] = if self.left == 0 && !line.is_empty() { b"" } else { b"\n" };
-        let written = self.out.write_all(line).and_then(|()| self.out.write_all(end));
-        self.error = written.err();
-    }
-
-    fn is_full(&self) -> bool {
-        self.left == 0 || self.error.is_some()
-    }
-}
-
-/// How many families there are.
-const FAMILIES: usize = 10;
-
-/// The families' shares of the lines in a hundred, in the order of [`Generator::family`].
-const SHARES: [usize; FAMILIES] = [25, 14, 9, 2, 20, 4, 3, 12, 7, 4];
-
-struct Generator {
-    random: Random,
-    /// Lines so far, by family.
-    made: [usize; FAMILIES],
-    /// Where the families that go through cells stand.
-    length: usize,
-    grid: usize,
-    code: u8,
-}
-
-impl Generator {
-    fn new(seed: u64) -> Self {
-        let mut random = Random::new(seed);
-        let (length, grid) = (random.below(sweep::LENGTH_CELLS), random.below(sweep::GRID_CELLS));
-        Self { code: random.octet(), random, made: [0; FAMILIES], length, grid }
-    }
-
-    /// One scenario of the family that is furthest behind its share.
-    fn scenario(&mut self, sink: &mut Sink) {
-        let share_made = |family: &usize| self.made[*family] * 10_000 / SHARES[*family];
-        let behind = (0..FAMILIES).min_by_key(share_made).unwrap_or(0);
-        let before = sink.left;
-        self.family(behind, sink);
-        self.made[behind] += before - sink.left;
-    }
-
-    fn family(&mut self, number: usize, sink: &mut Sink) {
-        let r = &mut self.random;
-        match number {
-            0 => link::pairing(r, sink),
-            1 => {
-                // The step is prime and no divisor of the number of cells: every cell is visited.
-                self.length = (self.length + 10_007) % sweep::LENGTH_CELLS;
-                sweep::length(r, sink, self.length);
-            }
-            2 => {
-                self.grid = (self.grid + 1) % sweep::GRID_CELLS;
-                sweep::grid(r, sink, self.grid);
-            }
-            3 => sweep::panics(r, sink),
-            4 => sweep::damaged(r, sink),
-            5 => sweep::lists(r, sink),
-            6 => {
-                self.code = self.code.wrapping_add(1);
-                sweep::code(r, sink, self.code);
-            }
-            7 => sweep::random(r, sink),
-            8 => sweep::confirm(r, sink),
-            _ => malformed::line(r, sink),
-        }
-    }
-}
+use cases::{Generator, Sink};
 
 fn arguments() -> Option<(u64, usize)> {
     let mut given = std::env::args().skip(1);
@@ -130,7 +25,7 @@ fn main() -> ExitCode {
     while !sink.is_full() {
         generator.scenario(&mut sink);
     }
-    match sink.error.map_or_else(|| sink.out.flush(), Err) {
+    match sink.finish() {
         Ok(()) => ExitCode::SUCCESS,
         Err(error) => {
             eprintln!("cases: {error}");

@@ -31,7 +31,7 @@ fn event(r: &mut Random, number: usize) -> Input {
         1 => Input::LinkEncryptedResult(true),
         2 => Input::PassKeyConfirm,
         3 => Input::PassKeyCancel,
-        4 => Input::PassKeyInput(if r.chance(70) { r.passkey() } else { r.next() as u32 }),
+        4 => Input::PassKeyInput(if r.chance(70) { r.passkey() } else { r.word() as u32 }),
         _ => Input::OobDataReceived(r.octets()),
     }
 }

@@ -3,7 +3,7 @@
 //! Every cell either can be reached, and then must not be empty, or cannot, for a reason that a
 //! rule gives. A cell that was reached against its rule is reported too.
 
-use std::collections::BTreeMap;
+use std::collections::{BTreeMap, BTreeSet};
 
 use reference::calls::{self, Kind, KINDS};
 use reference::machine::{PHASE, PHASES};
@@ -95,12 +95,30 @@ fn digits(text: &[u8]) -> Option<Vec<u8>> {
     text.chunks_exact(2).map(|p| Some((digit(&p[0])? << 4 | digit(&p[1])?) as u8)).collect()
 }
 
+/// A cell: its table (0 steps, 1 calls, 2 panics) and its place there.
+pub type Place = (usize, Vec<usize>);
+
 impl Coverage {
     /// Counts one case and the reference's answer to it.
     pub fn line(&mut self, case: &[u8], panic: Option<&str>, answer: &[u8]) {
         if let Some(given) = lines::parse(case) {
             self.step(&given, panic, answer);
         }
+    }
+
+    /// The cells that were reached. Refusal 1 has one for each role and phase, as in the report.
+    pub fn reached(&self) -> BTreeSet<Place> {
+        let mut found = BTreeSet::new();
+        for (table, cells) in [&self.steps, &self.calls, &self.panics].into_iter().enumerate() {
+            found.extend(cells.keys().map(|cell| (table, cell.clone())));
+        }
+        let merged = |(table, mut cell): Place| {
+            if table == 0 && cell[3] == REFUSED + 1 {
+                cell[2] = OTHER;
+            }
+            (table, cell)
+        };
+        found.into_iter().map(merged).collect()
     }
 
     fn step(&mut self, given: &Step, panic: Option<&str>, answer: &[u8]) -> Option<()> {
@@ -274,6 +292,12 @@ impl Coverage {
     fn step_count(&self, role: usize, phase: usize, input: usize, column: usize) -> usize {
         let inputs = if column == REFUSED + 1 { 0..INPUTS.len() } else { input..input + 1 };
         inputs.map(|i| count(&self.steps, &[role, phase, i, column])).sum()
+    }
+
+    /// How many cells can be reached, and how many of them are empty.
+    pub fn empty(&self) -> (usize, usize) {
+        let cells: Vec<Cell> = self.cells().into_iter().filter(|c| c.reason.is_none()).collect();
+        (cells.len(), cells.iter().filter(|c| c.count == 0).count())
     }
 
     /// Prints the empty cells and the cells reached against their rule; true where there are none.

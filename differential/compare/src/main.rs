@@ -4,14 +4,13 @@
 //! Exit code 1 where a line differs, where the reference panicked for no known reason, or, with
 //! `--coverage`, where a cell that can be reached is empty.
 
-mod coverage;
 mod differences;
 
 use std::fs::File;
 use std::io::{self, BufRead, BufReader};
 use std::process::ExitCode;
 
-use coverage::Coverage;
+use compare::coverage::Coverage;
 
 /// How many differences are shown in full.
 const SHOWN: usize = 20;

@@ -12,14 +12,14 @@ returns : tie.Need-returns
 unfolding transition
 returns c =
     let a = c .before .before .before .before .before .args in
-    c .waiting-pairing-request .ensures
+    c .waiting-request .ensures
     ∙ ap (λ (p : Phase). run (now (a .answers)) (transitionFrom (a .current) (now (a .payload)) (a .input) p) (a .trace)) (sym (c .before .enum-told .given .1))
 
 returns-2 : tie.Need-returns-2
 unfolding transition
 returns-2 c =
     let a = c .before .before .before .before .before .before .args in
-    c .waiting-pass-key-input .ensures
+    c .waiting-pass-key .ensures
     ∙ ap (λ (p : Phase). run (now (a .answers)) (transitionFrom (a .current) (now (a .payload)) (a .input) p) (a .trace)) (sym (c .before .before .state .given .1))
 
 returns-3 : tie.Need-returns-3
@@ -33,35 +33,35 @@ returns-4 : tie.Need-returns-4
 unfolding transition
 returns-4 c =
     let a = c .before .before .before .before .before .args in
-    c .waiting-pairing-confirm .ensures
+    c .waiting-confirm .ensures
     ∙ ap (λ (p : Phase). run (now (a .answers)) (transitionFrom (a .current) (now (a .payload)) (a .input) p) (a .trace)) (sym (c .before .enum-told3 .given .1))
 
 returns-5 : tie.Need-returns-5
 unfolding transition
 returns-5 c =
     let a = c .before .before .before .before .before .before .args in
-    c .waiting-pairing-random .ensures
+    c .waiting-random .ensures
     ∙ ap (λ (p : Phase). run (now (a .answers)) (transitionFrom (a .current) (now (a .payload)) (a .input) p) (a .trace)) (sym (c .before .before .state2 .given .1))
 
 returns-6 : tie.Need-returns-6
 unfolding transition
 returns-6 c =
     let a = c .before .before .before .before .before .args in
-    c .waiting-link-encrypted .ensures
+    c .waiting-encrypted .ensures
     ∙ ap (λ (p : Phase). run (now (a .answers)) (transitionFrom (a .current) (now (a .payload)) (a .input) p) (a .trace)) (sym (c .before .enum-told4 .given .1))
 
 returns-7 : tie.Need-returns-7
 unfolding transition
 returns-7 c =
     let a = c .before .before .before .before .before .args in
-    ran-of _ _ _ (c .waiting-identitity-information .ensures (now (a .answers)))
+    ran-of _ _ _ (c .waiting-identity .ensures (now (a .answers)))
     ∙ ap (λ (p : Phase). run (now (a .answers)) (transitionFrom (a .current) (now (a .payload)) (a .input) p) (a .trace)) (sym (c .before .enum-told5 .given .1))
 
 returns-8 : tie.Need-returns-8
 unfolding transition
 returns-8 c =
     let a = c .before .before .before .before .before .args in
-    c .waiting-identitity-address-information .ensures (now (a .answers))
+    c .waiting-address .ensures (now (a .answers))
     ∙ ap (λ (p : Phase). run (now (a .answers)) (transitionFrom (a .current) (now (a .payload)) (a .input) p) (a .trace)) (sym (c .before .enum-told6 .given .1))
 
 returns-9 : tie.Need-returns-9

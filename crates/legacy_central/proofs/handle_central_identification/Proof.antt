@@ -1,0 +1,25 @@
+use Rattle.protocol.specs.LegacyCentral.{«handle_central_identification»}
+use borrow.Author.Needs.{needs}
+use Rattle.legacy_central.proofs.handle_central_identification.Statement.{statement}
+use Rattle.legacy_central.proofs.handle_central_identification.Tie as tie
+
+returns : tie.Need-returns
+unfolding «handle_central_identification»
+returns c = rw (c .failed .ensures, ← c .before .before .before .read-identification .ensures, c .before .enum-told .given .1)
+
+returns-2 : tie.Need-returns-2
+unfolding «handle_central_identification»
+returns-2 c = rw (← c .before .before .before .before .before .read-identification .ensures, c .before .before .before .ediv .given .1, ← c .before .with-keys .ensures) (c .identity-or-own-keys .ensures)
+
+pub handle-central-identification-spec : {M : Type 1} → statement M
+handle-central-identification-spec =
+    tie.close
+    (tie.spec
+    (λ c κs. search needs)
+    (λ c. search needs)
+    (λ c. search needs)
+    (λ c κs. search needs)
+    returns
+    (λ c κs. search needs)
+    (λ c κs. search needs)
+    returns-2)

@@ -1,0 +1,45 @@
+use mathlib.Core.Path.{_∙_, ap, sym}
+use denote.Ref.{now}
+use Rattle.ops.specs.Run.{run}
+use Rattle.machine.specs.declared.Machine.{Machine}
+use Rattle.protocol.specs.Handlers.{Handler}
+use Rattle.handlers.specs.Inputs.{linkFound}
+use Rattle.handlers.proofs.Outcoming.{no-command, no-link-encrypted, on-command, on-link-encrypted, ran-of}
+use borrow.Author.Needs.{needs}
+use Rattle.legacy_peripheral.proofs.waiting_request.Statement.{statement}
+use Rattle.legacy_peripheral.proofs.waiting_request.Tie as tie
+
+returns : tie.Need-returns
+returns c =
+    let a = c .before .before .before .before .before .before .before .args in
+    c .handle-pairing-request .ensures
+    ∙ ap (λ (h : Handler Machine). run (now (a .answers)) h (a .trace)) (on-command _ (a .input) _ _ (sym (c .before .if1 .taken) ∙ c .before .before .is-command .ensures))
+
+returns-2 : tie.Need-returns-2
+returns-2 c =
+    let a = c .before .before .before .before .before .before .before .before .before .before .args in
+    ran-of _ _ _ (c .other-input .ensures (now (a .answers)))
+    ∙ ap (λ (h : Handler Machine). run (now (a .answers)) h (a .trace)) (no-link-encrypted (a .input) _ _ (sym (ap linkFound (c .before .enum-told .given .1)) ∙ c .before .before .before .link-encrypted .ensures))
+    ∙ ap (λ (h : Handler Machine). run (now (a .answers)) h (a .trace)) (no-command _ (a .input) _ _ (sym (c .before .before .before .before .if1 .left) ∙ c .before .before .before .before .before .is-command .ensures))
+
+returns-3 : tie.Need-returns-3
+returns-3 c =
+    let a = c .before .before .before .before .before .before .before .before .before .before .before .args in
+    c .handle-link-encrypted .ensures
+    ∙ ap (λ (h : Handler Machine). run (now (a .answers)) h (a .trace)) (on-link-encrypted (a .input) _ _ (sym (ap linkFound (c .before .before .encrypted .given .1)) ∙ c .before .before .before .before .link-encrypted .ensures))
+    ∙ ap (λ (h : Handler Machine). run (now (a .answers)) h (a .trace)) (no-command _ (a .input) _ _ (sym (c .before .before .before .before .before .if1 .left) ∙ c .before .before .before .before .before .before .is-command .ensures))
+
+pub waiting-request-spec : {M : Type 1} → statement M
+waiting-request-spec =
+    tie.close
+    (tie.spec
+    (λ c κs. search needs)
+    (λ c κs. search needs)
+    returns
+    (λ c κs. search needs)
+    (λ c. search needs)
+    (λ c. search needs)
+    (λ c κs. search needs)
+    returns-2
+    (λ c κs. search needs)
+    returns-3)
