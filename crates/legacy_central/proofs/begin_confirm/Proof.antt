@@ -1,3 +1,4 @@
+-- `legacy_central::begin_confirm` meets its contract. Assumes nothing.
 use Rattle.ops.proofs.Laws.{and-halt, run-bind}
 use Rattle.protocol.specs.LegacyCentral.{beginConfirm}
 use borrow.Author.Needs.{needs}

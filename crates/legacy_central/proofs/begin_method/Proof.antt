@@ -1,3 +1,4 @@
+-- `legacy_central::begin_method` meets its contract. Assumes nothing.
 use Rattle.handlers.proofs.Outcoming.{ran-of}
 use Rattle.protocol.specs.LegacyCentral.{beginMethod}
 use borrow.Author.Needs.{needs}

@@ -1,3 +1,4 @@
+-- `legacy_central::confirm_value` meets its contract. Assumes nothing.
 use Rattle.protocol.specs.LegacyCentral.{confirmValue}
 use borrow.Author.Needs.{needs}
 use Rattle.legacy_central.proofs.confirm_value.Statement.{statement}

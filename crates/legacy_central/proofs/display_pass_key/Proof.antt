@@ -1,3 +1,4 @@
+-- `legacy_central::display_pass_key` meets its contract. Assumes nothing.
 use Rattle.ops.proofs.Laws.{and-halt}
 use borrow.Author.Needs.{needs}
 use Rattle.legacy_central.proofs.display_pass_key.Statement.{statement}

@@ -1,3 +1,4 @@
+-- `legacy_central::handle_central_identification` meets its contract. Assumes nothing.
 use Rattle.protocol.specs.LegacyCentral.{«handle_central_identification»}
 use borrow.Author.Needs.{needs}
 use Rattle.legacy_central.proofs.handle_central_identification.Statement.{statement}

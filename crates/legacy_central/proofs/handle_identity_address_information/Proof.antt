@@ -1,3 +1,4 @@
+-- `legacy_central::handle_identity_address_information` meets its contract. Assumes nothing.
 use Rattle.protocol.specs.LegacyCentral.{«handle_identity_address_information»}
 use borrow.Author.Needs.{needs}
 use Rattle.legacy_central.proofs.handle_identity_address_information.Statement.{statement}

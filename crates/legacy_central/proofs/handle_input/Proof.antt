@@ -1,3 +1,4 @@
+-- `legacy_central::handle_input` meets its contract. Assumes nothing.
 use Rattle.ops.proofs.Laws.{run-bind}
 use Rattle.protocol.specs.LegacyCentral.{«handle_input»}
 use borrow.Author.Needs.{needs}

@@ -1,3 +1,4 @@
+-- `legacy_central::handle_link_encrypted_success` meets its contract. Assumes nothing.
 use Rattle.protocol.specs.LegacyCentral.{«handle_link_encrypted_success»}
 use borrow.Author.Needs.{needs}
 use Rattle.legacy_central.proofs.handle_link_encrypted_success.Statement.{statement}

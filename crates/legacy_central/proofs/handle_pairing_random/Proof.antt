@@ -1,3 +1,4 @@
+-- `legacy_central::handle_pairing_random` meets its contract. Assumes nothing.
 use Rattle.handlers.proofs.Outcoming.{ran-of}
 use Rattle.protocol.specs.LegacyCentral.{«handle_pairing_random»}
 use borrow.Author.Needs.{needs}

@@ -1,3 +1,4 @@
+-- `legacy_central::handle_pairing_response` meets its contract. Assumes nothing.
 use Rattle.handlers.specs.declared.payload.TryFeatures.{TryFeatures}
 use Rattle.handlers.specs.Payloads.{whereFound}
 use Rattle.protocol.specs.Handlers.{commandOctets}

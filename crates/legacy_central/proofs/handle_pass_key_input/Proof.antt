@@ -1,3 +1,4 @@
+-- `legacy_central::handle_pass_key_input` meets its contract. Assumes nothing.
 use Rattle.ops.proofs.Laws.{and-halt, run-bind}
 use Rattle.protocol.specs.LegacyCentral.{«handle_pass_key_input»}
 use borrow.Author.Needs.{needs}

@@ -1,3 +1,4 @@
+-- `legacy_central::handle_peer_confirm` meets its contract. Assumes nothing.
 use Rattle.protocol.specs.LegacyCentral.{«handle_peer_confirm»}
 use borrow.Author.Needs.{needs}
 use Rattle.legacy_central.proofs.handle_peer_confirm.Statement.{statement}

@@ -1,3 +1,4 @@
+-- `legacy_central::identity_or_own_keys` meets its contract. Assumes nothing.
 use Rattle.protocol.specs.LegacyCentral.{awaitIdentityOrSend}
 use borrow.Author.Needs.{needs}
 use Rattle.legacy_central.proofs.identity_or_own_keys.Statement.{statement}

@@ -1,3 +1,4 @@
+-- `legacy_central::receive_keys` meets its contract. Assumes nothing.
 use Rattle.protocol.specs.LegacyCentral.{awaitKeys}
 use borrow.Author.Needs.{needs}
 use Rattle.legacy_central.proofs.receive_keys.Statement.{statement}

@@ -1,3 +1,4 @@
+-- `legacy_central::send_all_keys` meets its contract. Assumes nothing.
 use Rattle.ops.proofs.Laws.{and-halt, run-bind}
 use Rattle.protocol.specs.LegacyCentral.{«send_all_keys»}
 use borrow.Author.Needs.{needs}

@@ -1,3 +1,4 @@
+-- `legacy_central::send_drawn_keys` meets its contract. Assumes nothing.
 use Rattle.ops.proofs.Laws.{and-halt}
 use Rattle.handlers.proofs.Keying.{keys-sent}
 use borrow.Author.Needs.{needs}

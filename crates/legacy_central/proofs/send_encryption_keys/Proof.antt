@@ -1,3 +1,4 @@
+-- `legacy_central::send_encryption_keys` meets its contract. Assumes nothing.
 use Rattle.protocol.specs.Handlers.{sendEncryptionKey}
 use borrow.Author.Needs.{needs}
 use Rattle.legacy_central.proofs.send_encryption_keys.Statement.{statement}

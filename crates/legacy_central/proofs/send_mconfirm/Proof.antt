@@ -1,3 +1,4 @@
+-- `legacy_central::send_mconfirm` meets its contract. Assumes nothing.
 use Rattle.ops.proofs.Laws.{and-halt}
 use Rattle.protocol.specs.LegacyCentral.{«send_mconfirm»}
 use borrow.Author.Needs.{needs}

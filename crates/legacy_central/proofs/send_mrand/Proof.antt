@@ -1,3 +1,4 @@
+-- `legacy_central::send_mrand` meets its contract. Assumes nothing.
 use denote.Ref.{now}
 use Rattle.handlers.proofs.Outcoming.{sending}
 use Rattle.protocol.specs.LegacyCentral.{«send_mrand»}

@@ -1,3 +1,4 @@
+-- `legacy_peripheral::add_encryption_key` meets its contract. Assumes nothing.
 use borrow.Author.Needs.{needs}
 use Rattle.legacy_peripheral.proofs.add_encryption_key.Statement.{statement}
 use Rattle.legacy_peripheral.proofs.add_encryption_key.Tie as tie

@@ -1,3 +1,4 @@
+-- `legacy_peripheral::add_identity_key` meets its contract. Assumes nothing.
 use borrow.Author.Needs.{needs}
 use Rattle.legacy_peripheral.proofs.add_identity_key.Statement.{statement}
 use Rattle.legacy_peripheral.proofs.add_identity_key.Tie as tie

@@ -1,3 +1,4 @@
+-- `legacy_peripheral::authentication` meets its contract. Assumes nothing.
 use borrow.Author.Needs.{needs}
 use Rattle.legacy_peripheral.proofs.authentication.Statement.{statement}
 use Rattle.legacy_peripheral.proofs.authentication.Tie as tie

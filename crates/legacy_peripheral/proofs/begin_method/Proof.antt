@@ -1,3 +1,4 @@
+-- `legacy_peripheral::begin_method` meets its contract. Assumes nothing.
 use Rattle.handlers.proofs.Outcoming.{ran-of}
 use Rattle.protocol.specs.LegacyPeripheral.{beginMethod}
 use borrow.Author.Needs.{needs}

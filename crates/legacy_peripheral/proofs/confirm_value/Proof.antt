@@ -1,3 +1,4 @@
+-- `legacy_peripheral::confirm_value` meets its contract. Assumes nothing.
 use Rattle.protocol.specs.LegacyPeripheral.{confirmValue}
 use borrow.Author.Needs.{needs}
 use Rattle.legacy_peripheral.proofs.confirm_value.Statement.{statement}

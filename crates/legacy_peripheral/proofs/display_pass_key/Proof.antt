@@ -1,3 +1,4 @@
+-- `legacy_peripheral::display_pass_key` meets its contract. Assumes nothing.
 use Rattle.ops.proofs.Laws.{and-halt}
 use borrow.Author.Needs.{needs}
 use Rattle.legacy_peripheral.proofs.display_pass_key.Statement.{statement}

@@ -1,3 +1,4 @@
+-- `legacy_peripheral::handle_central_identification` meets its contract. Assumes nothing.
 use Rattle.protocol.specs.LegacyPeripheral.{«handle_central_identification»}
 use borrow.Author.Needs.{needs}
 use Rattle.legacy_peripheral.proofs.handle_central_identification.Statement.{statement}

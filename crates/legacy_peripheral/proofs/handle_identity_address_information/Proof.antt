@@ -1,3 +1,4 @@
+-- `legacy_peripheral::handle_identity_address_information` meets its contract. Assumes nothing.
 use Rattle.protocol.specs.LegacyPeripheral.{«handle_identity_address_information»}
 use borrow.Author.Needs.{needs}
 use Rattle.legacy_peripheral.proofs.handle_identity_address_information.Statement.{statement}

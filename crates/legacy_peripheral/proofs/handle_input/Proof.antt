@@ -1,3 +1,4 @@
+-- `legacy_peripheral::handle_input` meets its contract. Assumes nothing.
 use Rattle.ops.proofs.Laws.{run-bind}
 use Rattle.protocol.specs.LegacyPeripheral.{«handle_input»}
 use borrow.Author.Needs.{needs}

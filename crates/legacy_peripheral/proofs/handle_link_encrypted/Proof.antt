@@ -1,3 +1,4 @@
+-- `legacy_peripheral::handle_link_encrypted` meets its contract. Assumes nothing.
 use borrow.Author.Needs.{needs}
 use Rattle.legacy_peripheral.proofs.handle_link_encrypted.Statement.{statement}
 use Rattle.legacy_peripheral.proofs.handle_link_encrypted.Tie as tie

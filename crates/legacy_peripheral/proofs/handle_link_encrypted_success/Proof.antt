@@ -1,3 +1,4 @@
+-- `legacy_peripheral::handle_link_encrypted_success` meets its contract. Assumes nothing.
 use Rattle.ops.proofs.Laws.{and-halt}
 use denote.Ref.{now}
 use Rattle.protocol.specs.LegacyPeripheral.{«handle_link_encrypted_success», sendKeysOrAwaitIdentity}

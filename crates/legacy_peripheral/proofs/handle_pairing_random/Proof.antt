@@ -1,3 +1,4 @@
+-- `legacy_peripheral::handle_pairing_random` meets its contract. Assumes nothing.
 use Rattle.protocol.specs.LegacyPeripheral.{«handle_pairing_random»}
 use borrow.Author.Needs.{needs}
 use Rattle.legacy_peripheral.proofs.handle_pairing_random.Statement.{statement}

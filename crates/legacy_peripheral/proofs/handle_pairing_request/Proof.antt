@@ -1,3 +1,4 @@
+-- `legacy_peripheral::handle_pairing_request` meets its contract. Assumes nothing.
 use Rattle.ops.proofs.Laws.{and-halt}
 use mathlib.Core.Path.{_∙_, ap}
 use denote.Ref.{now}

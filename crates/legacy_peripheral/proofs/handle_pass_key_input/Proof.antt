@@ -1,3 +1,4 @@
+-- `legacy_peripheral::handle_pass_key_input` meets its contract. Assumes nothing.
 use Rattle.protocol.specs.LegacyPeripheral.{«handle_pass_key_input»}
 use borrow.Author.Needs.{needs}
 use Rattle.legacy_peripheral.proofs.handle_pass_key_input.Statement.{statement}

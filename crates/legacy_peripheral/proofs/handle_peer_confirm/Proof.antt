@@ -1,3 +1,4 @@
+-- `legacy_peripheral::handle_peer_confirm` meets its contract. Assumes nothing.
 use Rattle.protocol.specs.LegacyPeripheral.{«handle_peer_confirm»}
 use borrow.Author.Needs.{needs}
 use Rattle.legacy_peripheral.proofs.handle_peer_confirm.Statement.{statement}

@@ -1,3 +1,4 @@
+-- `legacy_peripheral::identity_key_offered` meets its contract. Assumes nothing.
 use borrow.Author.Needs.{needs}
 use Rattle.legacy_peripheral.proofs.identity_key_offered.Statement.{statement}
 use Rattle.legacy_peripheral.proofs.identity_key_offered.Tie as tie

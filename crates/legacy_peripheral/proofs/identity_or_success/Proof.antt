@@ -1,3 +1,4 @@
+-- `legacy_peripheral::identity_or_success` meets its contract. Assumes nothing.
 use Rattle.protocol.specs.LegacyPeripheral.{awaitIdentityOrSucceed}
 use borrow.Author.Needs.{needs}
 use Rattle.legacy_peripheral.proofs.identity_or_success.Statement.{statement}

@@ -1,3 +1,4 @@
+-- `legacy_peripheral::initiator_keys` meets its contract. Assumes nothing.
 use Rattle.protocol.specs.LegacyPeripheral.{initiatorKeys}
 use borrow.Author.Needs.{needs}
 use Rattle.legacy_peripheral.proofs.initiator_keys.Statement.{statement}

@@ -1,3 +1,4 @@
+-- `legacy_peripheral::negotiate` meets its contract. Assumes nothing.
 use Rattle.ops.proofs.Laws.{run-bind}
 use borrow.Author.Needs.{needs}
 use Rattle.legacy_peripheral.proofs.negotiate.Statement.{statement}

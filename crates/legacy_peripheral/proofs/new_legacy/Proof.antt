@@ -1,3 +1,4 @@
+-- `legacy_peripheral::new_legacy` meets its contract. Assumes nothing.
 use borrow.Author.Needs.{needs}
 use Rattle.legacy_peripheral.proofs.new_legacy.Statement.{statement}
 use Rattle.legacy_peripheral.proofs.new_legacy.Tie as tie

@@ -1,3 +1,4 @@
+-- `legacy_peripheral::no_answer` meets its contract. Assumes nothing.
 use borrow.Author.Needs.{needs}
 use Rattle.legacy_peripheral.proofs.no_answer.Statement.{statement}
 use Rattle.legacy_peripheral.proofs.no_answer.Tie as tie

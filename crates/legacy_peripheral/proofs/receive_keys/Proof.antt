@@ -1,3 +1,4 @@
+-- `legacy_peripheral::receive_keys` meets its contract. Assumes nothing.
 use Rattle.protocol.specs.LegacyPeripheral.{awaitKeys}
 use borrow.Author.Needs.{needs}
 use Rattle.legacy_peripheral.proofs.receive_keys.Statement.{statement}

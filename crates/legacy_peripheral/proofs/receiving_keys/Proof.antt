@@ -1,3 +1,4 @@
+-- `legacy_peripheral::receiving_keys` meets its contract. Assumes nothing.
 use mathlib.Core.Path.{_∙_, ap, sym}
 use Rattle.ops.specs.Run.{run}
 use Rattle.machine.specs.declared.Machine.{Machine}

@@ -1,3 +1,4 @@
+-- `legacy_peripheral::report_bond_lost` meets its contract. Assumes nothing.
 use Rattle.protocol.specs.Handlers.{ok}
 use Rattle.ops.specs.Run.{ended}
 use Rattle.ops.proofs.Laws.{and-attempt}

@@ -1,3 +1,4 @@
+-- `legacy_peripheral::responder_keys` meets its contract. Assumes nothing.
 use Rattle.protocol.specs.LegacyPeripheral.{responderKeys}
 use borrow.Author.Needs.{needs}
 use Rattle.legacy_peripheral.proofs.responder_keys.Statement.{statement}

@@ -1,3 +1,4 @@
+-- `legacy_peripheral::response_features` meets its contract. Assumes nothing.
 use Rattle.protocol.specs.LegacyPeripheral.{responseFeatures}
 use borrow.Author.Needs.{needs}
 use Rattle.legacy_peripheral.proofs.response_features.Statement.{statement}

@@ -1,3 +1,4 @@
+-- `legacy_peripheral::send_all_keys` meets its contract. Assumes nothing.
 use Rattle.ops.proofs.Laws.{and-halt, run-bind}
 use denote.Ref.{now}
 use Rattle.protocol.specs.LegacyPeripheral.{«send_all_keys»}

@@ -1,3 +1,4 @@
+-- `legacy_peripheral::send_encryption_keys` meets its contract. Assumes nothing.
 use Rattle.protocol.specs.Handlers.{sendEncryptionKey}
 use borrow.Author.Needs.{needs}
 use Rattle.legacy_peripheral.proofs.send_encryption_keys.Statement.{statement}

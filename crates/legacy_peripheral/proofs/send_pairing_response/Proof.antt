@@ -1,3 +1,4 @@
+-- `legacy_peripheral::send_pairing_response` meets its contract. Assumes nothing.
 use Rattle.ops.proofs.Laws.{and-halt}
 use borrow.Author.Needs.{needs}
 use Rattle.legacy_peripheral.proofs.send_pairing_response.Statement.{statement}

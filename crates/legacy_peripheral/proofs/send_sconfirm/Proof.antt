@@ -1,3 +1,4 @@
+-- `legacy_peripheral::send_sconfirm` meets its contract. Assumes nothing.
 use Rattle.ops.proofs.Laws.{and-halt}
 use Rattle.protocol.specs.LegacyPeripheral.{«send_sconfirm»}
 use borrow.Author.Needs.{needs}

@@ -1,3 +1,4 @@
+-- `legacy_peripheral::send_srand` meets its contract. Assumes nothing.
 use Rattle.ops.proofs.Laws.{and-halt}
 use Rattle.handlers.proofs.Outcoming.{ran-of}
 use borrow.Author.Needs.{needs}

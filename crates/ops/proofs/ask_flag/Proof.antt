@@ -1,3 +1,4 @@
+-- `ops::ask_flag` meets its contract. Assumes nothing.
 use mathlib.Core.Path.{sym, ap, _∙_}
 use Rattle.answer.specs.Answers.{flagAnswer}
 use Rattle.ops.proofs.Laws.{none-taken, flag-within}

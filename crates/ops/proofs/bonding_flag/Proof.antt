@@ -1,3 +1,4 @@
+-- `ops::bonding_flag` meets its contract. Assumes nothing.
 use Rattle.ops.specs.Run.{answerTo}
 use borrow.Author.Needs.{needs}
 use Rattle.ops.proofs.bonding_flag.Statement.{statement}

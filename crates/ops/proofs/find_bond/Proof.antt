@@ -1,3 +1,4 @@
+-- `ops::find_bond` meets its contract. Assumes nothing.
 use Rattle.ops.specs.Run.{answerTo}
 use borrow.Author.Needs.{needs}
 use Rattle.ops.proofs.find_bond.Statement.{statement}

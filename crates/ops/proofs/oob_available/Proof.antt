@@ -1,3 +1,4 @@
+-- `ops::oob_available` meets its contract. Assumes nothing.
 use Rattle.ops.specs.Run.{answerTo}
 use borrow.Author.Needs.{needs}
 use Rattle.ops.proofs.oob_available.Statement.{statement}

@@ -1,3 +1,4 @@
+-- `ops::tell` meets its contract. Assumes nothing.
 use mathlib.Core.Path.{sym, ap, _∙_}
 use borrow.Author.Tests.{eq-eqb, ne-eqb}
 use Rattle.answer.specs.Answers.{verdictAnswer}

@@ -1,3 +1,4 @@
+-- `handlers::input::is_command` meets its contract. Assumes nothing.
 use borrow.Author.Needs.{needs}
 use Rattle.handlers.proofs.input.is_command.Statement.{statement}
 use Rattle.handlers.proofs.input.is_command.Tie as tie

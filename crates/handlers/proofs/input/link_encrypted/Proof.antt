@@ -1,3 +1,4 @@
+-- `handlers::input::link_encrypted` meets its contract. Assumes nothing.
 use borrow.Author.Needs.{needs}
 use Rattle.handlers.proofs.input.link_encrypted.Statement.{statement}
 use Rattle.handlers.proofs.input.link_encrypted.Tie as tie

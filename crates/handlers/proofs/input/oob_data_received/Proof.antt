@@ -1,3 +1,4 @@
+-- `handlers::input::oob_data_received` meets its contract. Assumes nothing.
 use borrow.Author.Needs.{needs}
 use Rattle.handlers.proofs.input.oob_data_received.Statement.{statement}
 use Rattle.handlers.proofs.input.oob_data_received.Tie as tie

@@ -1,3 +1,4 @@
+-- `handlers::input::other_input` meets its contract. Assumes nothing.
 use borrow.Author.Tests.{eq-eqb, ne-eqb}
 use Rattle.protocol.specs.Handlers.{otherInput}
 use borrow.Author.Needs.{needs}

@@ -1,3 +1,4 @@
+-- `handlers::input::pass_key_input` meets its contract. Assumes nothing.
 use borrow.Author.Needs.{needs}
 use Rattle.handlers.proofs.input.pass_key_input.Statement.{statement}
 use Rattle.handlers.proofs.input.pass_key_input.Tie as tie

@@ -1,3 +1,4 @@
+-- `handlers::keys::draw_keys` meets its contract. Assumes nothing.
 use borrow.Author.Needs.{needs}
 use Rattle.handlers.proofs.keys.draw_keys.Statement.{statement}
 use Rattle.handlers.proofs.keys.draw_keys.Tie as tie

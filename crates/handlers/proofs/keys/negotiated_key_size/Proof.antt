@@ -1,3 +1,4 @@
+-- `handlers::keys::negotiated_key_size` meets its contract. Assumes nothing.
 use borrow.Author.Tests.{le-ltb, lt-ltb}
 use Rattle.protocol.specs.Handlers.{negotiatedKeySize}
 use Rattle.handlers.proofs.keys.negotiated_key_size.Statement.{statement}

@@ -1,3 +1,4 @@
+-- `handlers::keys::send_identity_keys` meets its contract. Assumes nothing.
 use Rattle.protocol.specs.Handlers.{sendIdentityKey}
 use borrow.Author.Needs.{needs}
 use Rattle.handlers.proofs.keys.send_identity_keys.Statement.{statement}

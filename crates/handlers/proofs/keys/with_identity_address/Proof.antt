@@ -1,3 +1,4 @@
+-- `handlers::keys::with_identity_address` meets its contract. Assumes nothing.
 use Rattle.protocol.specs.Handlers.{withIdentityAddress}
 use borrow.Author.Needs.{needs}
 use Rattle.handlers.proofs.keys.with_identity_address.Statement.{statement}

@@ -1,3 +1,4 @@
+-- `handlers::keys::with_irk` meets its contract. Assumes nothing.
 use Rattle.protocol.specs.Handlers.{withIrk}
 use borrow.Author.Needs.{needs}
 use Rattle.handlers.proofs.keys.with_irk.Statement.{statement}

@@ -1,3 +1,4 @@
+-- `handlers::keys::with_keys` meets its contract. Assumes nothing.
 use Rattle.protocol.specs.Handlers.{withKeys}
 use borrow.Author.Needs.{needs}
 use Rattle.handlers.proofs.keys.with_keys.Statement.{statement}

@@ -1,3 +1,4 @@
+-- `handlers::payload::read_features` meets its contract. Assumes nothing.
 use mathlib.Core.Path.{refl, ap}
 use borrow.Author.Tests.{eq-eqb, ne-eqb}
 use Rattle.protocol.specs.Handlers.{featuresIn}

@@ -1,3 +1,4 @@
+-- `handlers::payload::read_identification` meets its contract. Assumes nothing.
 use borrow.Author.Tests.{le-ltb, lt-ltb}
 use Rattle.protocol.specs.Handlers.{identificationIn}
 use borrow.Author.Needs.{needs}

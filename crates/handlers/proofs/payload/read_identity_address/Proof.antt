@@ -1,3 +1,4 @@
+-- `handlers::payload::read_identity_address` meets its contract. Assumes nothing.
 use borrow.Author.Tests.{le-ltb, lt-ltb}
 use Rattle.protocol.specs.Handlers.{addressIn}
 use borrow.Author.Needs.{needs}

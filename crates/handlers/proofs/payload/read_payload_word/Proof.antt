@@ -1,3 +1,4 @@
+-- `handlers::payload::read_payload_word` meets its contract. Assumes nothing.
 use native.Mathlib.Omega.{arith}
 use lib.Seq.{take-all}
 use denote.Ref.{now}

@@ -1,3 +1,4 @@
+-- `handlers::payload::read_reason` meets its contract. Assumes nothing.
 use borrow.Author.Tests.{eq-eqb, ne-eqb}
 use mathlib.Core.Path.{sym}
 use Rattle.handlers.proofs.Reasons.{no-reason, first-reason}

@@ -1,3 +1,4 @@
+-- `handlers::payload::response_octets` meets its contract. Assumes nothing.
 use borrow.Author.Needs.{needs}
 use Rattle.handlers.proofs.payload.response_octets.Statement.{statement}
 use Rattle.handlers.proofs.payload.response_octets.Tie as tie

@@ -1,3 +1,4 @@
+-- `handlers::phases::attempt_event` meets its contract. Assumes nothing.
 use Rattle.ops.specs.Run.{ended}
 use Rattle.ops.proofs.Laws.{and-attempt}
 use borrow.Author.Needs.{needs}

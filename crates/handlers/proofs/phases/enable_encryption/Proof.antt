@@ -1,3 +1,4 @@
+-- `handlers::phases::enable_encryption` meets its contract. Assumes nothing.
 use Rattle.ops.proofs.Laws.{and-halt}
 use Rattle.protocol.specs.Handlers.{enableEncryption}
 use Rattle.handlers.proofs.Outcoming.{outcome-halted}

@@ -1,3 +1,4 @@
+-- `handlers::phases::enter` meets its contract. Assumes nothing.
 use mathlib.Core.Path.{_∙_, ap, sym}
 use denote.Ref.{now}
 use Rattle.machine.specs.declared.Machine.{Machine}

@@ -1,3 +1,4 @@
+-- `handlers::phases::enter_bonded` meets its contract. Assumes nothing.
 use denote.Ref.{now}
 use Rattle.bond.specs.declared.OptionBond.the-variants as option
 use Rattle.protocol.specs.Handlers.{complete}

@@ -1,3 +1,4 @@
+-- `handlers::phases::enter_success` meets its contract. Assumes nothing.
 use mathlib.Core.Path.{_∙_, ap, sym}
 use denote.Ref.{now}
 use Rattle.bond.specs.declared.OptionBond.{OptionBond}

@@ -1,3 +1,4 @@
+-- `handlers::phases::handle_identity_information` meets its contract. Assumes nothing.
 use Rattle.protocol.specs.Handlers.{«handle_identity_information»}
 use borrow.Author.Needs.{needs}
 use Rattle.handlers.proofs.phases.handle_identity_information.Statement.{statement}

@@ -1,3 +1,4 @@
+-- `handlers::phases::request_oob_data` meets its contract. Assumes nothing.
 use Rattle.ops.proofs.Laws.{and-halt}
 use Rattle.handlers.proofs.Outcoming.{outcome-halted}
 use borrow.Author.Needs.{needs}

@@ -1,3 +1,4 @@
+-- `handlers::phases::request_pass_key` meets its contract. Assumes nothing.
 use Rattle.ops.proofs.Laws.{and-halt}
 use Rattle.handlers.proofs.Outcoming.{outcome-halted}
 use borrow.Author.Needs.{needs}

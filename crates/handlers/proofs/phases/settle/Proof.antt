@@ -1,3 +1,4 @@
+-- `handlers::phases::settle` meets its contract. Assumes nothing.
 use borrow.Author.Needs.{needs}
 use Rattle.handlers.proofs.phases.settle.Statement.{statement}
 use Rattle.handlers.proofs.phases.settle.Tie as tie

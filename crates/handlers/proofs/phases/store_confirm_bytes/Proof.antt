@@ -1,3 +1,4 @@
+-- `handlers::phases::store_confirm_bytes` meets its contract. Assumes nothing.
 use Rattle.protocol.specs.Handlers.{«store_confirm_bytes»}
 use borrow.Author.Needs.{needs}
 use Rattle.handlers.proofs.phases.store_confirm_bytes.Statement.{statement}

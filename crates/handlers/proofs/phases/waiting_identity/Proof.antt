@@ -1,3 +1,4 @@
+-- `handlers::phases::waiting_identity` meets its contract. Assumes nothing.
 use mathlib.Core.Path.{_∙_, ap, sym}
 use Rattle.machine.specs.declared.Machine.{Machine}
 use Rattle.protocol.specs.Handlers.{Handler}

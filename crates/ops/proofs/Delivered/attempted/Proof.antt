@@ -1,3 +1,4 @@
+-- `ops::Delivered::attempted` meets its contract. Assumes nothing.
 use borrow.Author.Needs.{needs}
 use Rattle.ops.proofs.Delivered.attempted.Statement.{statement}
 use Rattle.ops.proofs.Delivered.attempted.Tie as tie

@@ -1,3 +1,4 @@
+-- `ops::Delivered::halt` meets its contract. Assumes nothing.
 use borrow.Author.Needs.{needs}
 use Rattle.ops.proofs.Delivered.halt.Statement.{statement}
 use Rattle.ops.proofs.Delivered.halt.Tie as tie

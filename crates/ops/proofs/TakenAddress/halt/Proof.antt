@@ -1,3 +1,4 @@
+-- `ops::TakenAddress::halt` meets its contract. Assumes nothing.
 use borrow.Author.Needs.{needs}
 use Rattle.ops.proofs.TakenAddress.halt.Statement.{statement}
 use Rattle.ops.proofs.TakenAddress.halt.Tie as tie

@@ -1,3 +1,4 @@
+-- `ops::TakenBond::halt` meets its contract. Assumes nothing.
 use borrow.Author.Needs.{needs}
 use Rattle.ops.proofs.TakenBond.halt.Statement.{statement}
 use Rattle.ops.proofs.TakenBond.halt.Tie as tie

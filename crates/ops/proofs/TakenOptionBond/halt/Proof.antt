@@ -1,3 +1,4 @@
+-- `ops::TakenOptionBond::halt` meets its contract. Assumes nothing.
 use borrow.Author.Needs.{needs}
 use Rattle.ops.proofs.TakenOptionBond.halt.Statement.{statement}
 use Rattle.ops.proofs.TakenOptionBond.halt.Tie as tie

@@ -1,3 +1,4 @@
+-- `handlers::outcome::Outcome::next` meets its contract. Assumes nothing.
 use borrow.Author.Needs.{needs}
 use Rattle.handlers.proofs.outcome.Outcome.next.Statement.{statement}
 use Rattle.handlers.proofs.outcome.Outcome.next.Tie as tie
