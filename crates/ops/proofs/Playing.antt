@@ -1,13 +1,13 @@
 -- A run on the code's trace is the play on lists: it comes out the same, has read as far, and lists the same calls.
 -- Assumes nothing.
-use Prim.Native.Nat.{ℕ, suc, _+_, _≤_, _<_}
+use Prim.Native.Nat.{ℕ, _+_, _≤_, _<_}
 use mathlib.Core.Path.{_≡_, refl, sym, ap, _∙_}
 use mathlib.Core.Bool.{Bool, true, false, cond}
 use mathlib.Core.List.{List, [], _∷_, _++_, map, append-assoc, append-nil}
 use native.Mathlib.Numerals.{add-one}
 use native.Mathlib.Omega.{arith}
 use lib.Dec.{ltb}
-use lib.ListN.{length, set, take, length-set, length-replicate}
+use lib.ListN.{length, set, length-set, length-replicate}
 use lib.Seq.{take-suc-set}
 use borrow.Author.Tests.{lt-ltb}
 use Rattle.host.specs.Calls.{allOctets, listed, mostCalls, noTrace, pushOf}

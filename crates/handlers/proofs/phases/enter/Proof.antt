@@ -6,7 +6,7 @@ use Rattle.machine.specs.declared.Phase.{Phase}
 use Rattle.protocol.specs.Handlers.{enter, enterPhase}
 use Rattle.ops.specs.Run.{run}
 use Rattle.handlers.specs.Outcomes.{finishedOf}
-use Rattle.handlers.proofs.Entering.{quiet}
+use Rattle.handlers.proofs.Entering.{no-call}
 use borrow.Author.Needs.{needs}
 use Rattle.handlers.proofs.phases.enter.Statement.{statement}
 use Rattle.handlers.proofs.phases.enter.Tie as tie
@@ -29,7 +29,7 @@ returns-3 : tie.Need-returns-3
 unfolding enter
 returns-3 c =
     let a = c .before .before .args in
-    ap (finishedOf (a .current)) (sym (quiet (now (a .answers)) (a .next) (a .trace) (a .next .phase) (c .match .keys3)))
+    ap (finishedOf (a .current)) (sym (no-call (now (a .answers)) (a .next) (a .trace) (a .next .phase) (c .match .keys3)))
 
 pub enter-spec : {M : Type 1} → statement M
 enter-spec =
