@@ -11,9 +11,9 @@ use lib.ListN.{length, getD, take, drop, length-append, length-drop, take-append
 use lib.Seq.{length-take-le, drop-cons, drop-drop, drop-append-seam, getD-at}
 use Rattle.octets.specs.Answer.{Answer, refused, accepted, andThen}
 use Rattle.types.proofs.Tables.{refused≢accepted}
-use Rattle.host.specs.Calls.{bodyOf, callOctets, allOctets, bodyLength}
+use Rattle.host.specs.Calls.{bodyOf, callOctets, callsOctets, bodyLength}
 use Rattle.call_list.specs.CallList.{begins, callsFrom, callsOf, recordsFrom, noCall, checkedOf, countOf, callIn, callAtOf, sizeOf, endToEnd}
-use Rattle.host.specs.declared.call.Slot.{Slot}
+use Rattle.host.specs.declared.call.Call.{Call}
 use Rattle.call_list.specs.declared.CallRecord.{CallRecord}
 use Rattle.host.proofs.Writing.{body-length}
 
@@ -33,20 +33,20 @@ cut-body (suc n) at (x ∷ l) h = cut-body n (suc at) l (omega arith)
 
 -- ---- what the encoder wrote reads back
 
-read-from : (cs : List Slot) (at : ℕ) → callsFrom at 0 (allOctets cs) ≡ accepted (recordsFrom at cs)
-unfolding callsFrom allOctets callOctets
+read-from : (cs : List Call) (at : ℕ) → callsFrom at 0 (callsOctets cs) ≡ accepted (recordsFrom at cs)
+unfolding callsFrom callsOctets callOctets
 read-from [] at = refl
 read-from (c ∷ cs) at =
-    let body = bodyOf (c .call) in
-    let rest = allOctets cs in
+    let body = bodyOf c in
+    let rest = callsOctets cs in
     let size : at + suc (length body) ≡ suc at + length body = omega arith in
     let behind : callsFrom (suc at) (length body) (body ++ rest) ≡ accepted (recordsFrom (at + suc (length body)) cs) =
     passed (length body) (suc at) (body ++ rest) (rw length-append (omega arith))
     ∙ ap (callsFrom (suc at + length body) 0) (drop-append-seam body rest)
     ∙ rw size (read-from cs (suc at + length body)) in
-    rw (body-length (c .call), behind)
+    rw (body-length c, behind)
 
-pub read-back : (cs : List Slot) → callsOf (allOctets cs) ≡ accepted (recordsFrom 0 cs)
+pub read-back : (cs : List Call) → callsOf (callsOctets cs) ≡ accepted (recordsFrom 0 cs)
 unfolding callsOf
 read-back cs = read-from cs 0
 

@@ -5,7 +5,7 @@ use mathlib.Core.List.{List, [], _∷_, _++_}
 use lib.ListN.{length, getD, take, drop}
 use Rattle.octets.specs.Answer.{Answer, refused, accepted, andThen}
 use Rattle.host.specs.Calls.{kindOf, callOctets, bodyLength}
-use Rattle.host.specs.declared.call.Slot.{Slot}
+use Rattle.host.specs.declared.call.Call.{Call}
 use Rattle.call_list.specs.declared.CallRecord.{CallRecord}
 use Rattle.call_list.specs.declared.CallCount.{CallCount}
 use Rattle.call_list.specs.declared.CallCount.the-variants as call-count
@@ -47,9 +47,9 @@ callAtOf l i = andThen (callsOf l) (λ calls. accepted (callIn calls i))
 -- ---- what the encoder writes
 
 -- the records of calls written one after another from place at on
-abbrev pub recordsFrom : ℕ → List Slot → List CallRecord
+abbrev pub recordsFrom : ℕ → List Call → List CallRecord
 recordsFrom at [] = []
-recordsFrom at (x ∷ l) = record { kind = kindOf (x .call); body = suc at } ∷ recordsFrom (at + length (callOctets (x .call))) l
+recordsFrom at (c ∷ l) = record { kind = kindOf c; body = suc at } ∷ recordsFrom (at + length (callOctets c)) l
 
 -- ---- kinds and bodies laid end to end
 

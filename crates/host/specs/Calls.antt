@@ -4,9 +4,9 @@ use Prim.Native.Nat.{ℕ, _+_}
 use mathlib.Core.Bool.{cond}
 use mathlib.Core.Option.{Option, none, some}
 use mathlib.Core.List.{List, [], _∷_, _++_}
-use lib.Dec.{eqb, ltb}
-use lib.ListN.{set, take, replicate}
-use Rattle.octets.specs.Octets.{toOctets, octetsOf}
+use lib.Dec.{eqb}
+use lib.ListN.{length, take, replicate}
+use Rattle.octets.specs.Octets.{toOctets, octetsOf, fitsAt, writeAt}
 use Rattle.types.specs.Types.{commandCode, featureOctets}
 use Rattle.types.specs.declared.types.Command.{Command}
 use Rattle.types.specs.declared.types.Command.the-variants as command
@@ -23,7 +23,6 @@ use Rattle.host.specs.declared.call.Call.{Call}
 use Rattle.host.specs.declared.call.Call.the-variants as call
 use Rattle.host.specs.declared.call.BodyLength.{BodyLength}
 use Rattle.host.specs.declared.call.BodyLength.the-variants as length-of
-use Rattle.host.specs.declared.call.Slot.{Slot}
 use Rattle.host.specs.declared.call.Trace.{Trace}
 
 -- ---- packets: kind is the SMP code, body the payload
@@ -165,21 +164,33 @@ bodySize length-of.Unknown = none
 -- ---- a list of calls
 
 -- the octets of calls, one after another
-unfoldable pub allOctets : List Slot → List ℕ
-allOctets [] = []
-allOctets (x ∷ l) = callOctets (x .call) ++ allOctets l
+unfoldable pub callsOctets : List Call → List ℕ
+callsOctets [] = []
+callsOctets (c ∷ l) = callOctets c ++ callsOctets l
 
--- the calls that a trace lists
-unfoldable pub listed : Trace → List Slot
-listed t = take (t .len) (t .slots)
-
--- the longest list of calls of one step
+-- one step lists no more calls than these, and no more octets of calls
 abbrev pub mostCalls : ℕ
 mostCalls = 11
 
-unfoldable pub noTrace : Trace
-noTrace = record { slots = replicate mostCalls (record { call = call.EnableBondedEncryption }); len = 0; read = 0 }
+abbrev pub longest : ℕ
+longest = 164
 
--- one more call; a full list stays as it is
+-- ---- the trace of a step
+
+-- the octets of the calls that it lists
+unfoldable pub listed : Trace → List ℕ
+listed t = take (t .len) (t .octets)
+
+unfoldable pub noTrace : Trace
+noTrace = record { octets = replicate longest 0; len = 0; read = 0 }
+
+-- one more call; where it has no room, the trace stays as it is
 unfoldable pub pushOf : Trace → Call → Trace
-pushOf t c = cond (ltb (t .len) mostCalls) (record { slots = set (t .slots) (t .len) (record { call = c }); len = t .len + 1; read = t .read }) t
+pushOf t c =
+    cond (fitsAt (t .octets) (t .len) (callOctets c))
+    (record {
+      octets = writeAt (t .octets) (t .len) (callOctets c);
+      len = t .len + length (callOctets c);
+      read = t .read;
+    })
+    t

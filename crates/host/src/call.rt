@@ -5,7 +5,7 @@ ghost use lib.ListN.{length};
 ghost use Rattle.octets.specs.Octets.{toOctets, octetsOf, Written};
 ghost use Rattle.bond.specs.Bond.{addressType, bdAddrOctets, bondPresent, bondOrZeros, flagCode};
 ghost use Rattle.host.specs.Calls.{packetCommand, kindOf, eventKind, questionKind, drawKind, bodyLength, bodySize, packetBody, eventBody};
-ghost use Rattle.host.specs.Calls.{bodyOf, callOctets, allOctets, listed, noTrace, pushOf};
+ghost use Rattle.host.specs.Calls.{bodyOf, callOctets, listed, noTrace, pushOf};
 use bond::Address;
 use bond::BondInformation;
 use bond::Error;
@@ -382,14 +382,12 @@ pub fn body_length(kind: u8) -> BodyLength
     }
 }
 
-// One call of a trace.
-pub struct Slot {
-    pub call: Call,
-}
+// One step's calls have no more octets than these.
+pub const LONGEST: usize = 164;
 
-// What a step has done so far: the calls that it has listed, and the octets of answers that it has read.
+// What a step has done so far: the octets of the calls that it has listed, and how many octets of answers it has read.
 pub struct Trace {
-    pub slots: [Slot; 11],
+    pub octets: [u8; LONGEST],
     pub len: usize,
     pub read: usize,
 }
@@ -398,69 +396,42 @@ impl Trace {
     pub fn none() -> Trace
         ensures { λ r. ⌜ r ≡ noTrace ⌝ }
     {
-        let none = Slot {
-            call: Call::EnableBondedEncryption,
-        };
-        let slots = [none; 11];
         Trace {
-            slots,
+            octets: [0; LONGEST],
             len: 0,
             read: 0,
         }
     }
 
-    // One more call; a full list stays as it is.
+    // One more call; where it has no room, the trace stays as it is.
     pub fn push(self, call: Call) -> Trace
         ensures { λ r. ⌜ r ≡ pushOf self call ⌝ }
     {
         let at = self.len;
-        if at < 11 {
-            let mut next = self;
-            next.slots[at] = Slot { call };
-            next.len = at + 1;
-            return next;
+        let mut octets = self.octets;
+        if call.write(&mut octets, at) {
+            return Trace {
+                octets,
+                len: at + call.size(),
+                read: self.read,
+            };
         }
         self
     }
 
-    // The number of calls.
-    pub fn count(self) -> usize
-        ensures { λ r. ⌜ r ≡ length (listed self) ⌝ }
-    {
-        if self.len < 11 { self.len } else { 11 }
-    }
-
     // The octets of all calls.
     pub fn size(self) -> usize
-        ensures { λ r. ⌜ r ≡ length (allOctets (listed self)) ⌝ }
+        ensures { λ r. ⌜ r ≡ length (listed self) ⌝ }
     {
-        let slots = self.slots;
-        let n = self.count();
-        let mut total = 0;
-        for i in 0..n {
-            let slot = slots[i];
-            let call = slot.call;
-            total += call.size();
-        }
-        total
+        if self.len < LONGEST { self.len } else { LONGEST }
     }
 
-    // Lays the calls over list from its beginning on, one after another, as `octets::write` does.
+    // Lays the calls over list from its beginning on, as `octets::write` does.
     pub fn write(self, list: &mut [u8]) -> bool
-        ensures { λ r. ⌜ Written (now (list .entry)) 0 (allOctets (listed self)) r (now (list .exit)) ⌝ }
+        ensures { λ r. ⌜ Written (now (list .entry)) 0 (listed self) r (now (list .exit)) ⌝ }
     {
-        if list.len() < self.size() {
-            return false;
-        }
-        let slots = self.slots;
-        let n = self.count();
-        let mut at = 0;
-        for i in 0..n {
-            let slot = slots[i];
-            let call = slot.call;
-            call.write(list, at);
-            at += call.size();
-        }
-        true
+        let octets = self.octets;
+        let n = self.size();
+        write(list, 0, &octets[..n])
     }
 }

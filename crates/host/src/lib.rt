@@ -4,7 +4,7 @@ pub mod call;
 pub use call::Call;
 pub use call::ConnectionEvent;
 pub use call::Draw;
+pub use call::LONGEST;
 pub use call::Packet;
 pub use call::Question;
-pub use call::Slot;
 pub use call::Trace;

@@ -4,7 +4,7 @@ use mathlib.Core.Bool.{Bool, true, false}
 use mathlib.Core.List.{List, _++_, append-assoc}
 use Prim.Native.Nat.{ℕ, _+_, _-_, _≤_, _<_}
 use native.Mathlib.Omega.{arith}
-use borrow.Author.Tests.{le-leb, lt-leb}
+use borrow.Author.Tests.{leb-true, le-leb, lt-leb}
 use borrow.Rule.Slice.PartMut.{putMid, post-is}
 use lib.ListN.{length, take, drop, length-append, length-drop}
 use lib.Seq.{take-at, drop-at, drop-drop, drop-append-add, length-take-le}
@@ -23,6 +23,10 @@ module _ (s : List ℕ) (at : ℕ) (w : List ℕ) where
   pub fits-not : length s < at + length w → fitsAt s at w ≡ false
   unfolding fitsAt
   fits-not h = lt-leb (at + length w) (length s) h
+
+  pub fitting : fitsAt s at w ≡ true → at + length w ≤ length s
+  unfolding fitsAt
+  fitting e = leb-true (at + length w) (length s) e
 
   pub written : at + length w ≤ length s → writeAt s at w ≡ take at s ++ (w ++ drop (at + length w) s)
   unfolding writeAt

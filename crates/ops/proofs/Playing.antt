@@ -1,25 +1,21 @@
 -- A run on the code's trace is the play on lists: it comes out the same, has read as far, and lists the same calls.
 -- Assumes nothing.
-use Prim.Native.Nat.{ℕ, _+_, _≤_, _<_}
+use Prim.Native.Nat.{ℕ, _+_, _≤_}
 use mathlib.Core.Path.{_≡_, refl, sym, ap, _∙_}
 use mathlib.Core.Bool.{Bool, true, false, cond}
-use mathlib.Core.List.{List, [], _∷_, _++_, map, append-assoc, append-nil}
-use native.Mathlib.Numerals.{add-one}
+use mathlib.Core.List.{List, [], _∷_, _++_, append-assoc, append-nil}
 use native.Mathlib.Omega.{arith}
-use lib.Dec.{ltb}
-use lib.ListN.{length, set, length-set, length-replicate}
-use lib.Seq.{take-suc-set}
-use borrow.Author.Tests.{lt-ltb}
-use Rattle.host.specs.Calls.{allOctets, listed, mostCalls, noTrace, pushOf}
+use lib.ListN.{length, take, drop, length-append, length-replicate}
+use lib.Seq.{length-take-le, take-append-seam}
+use Rattle.octets.specs.Octets.{fitsAt, writeAt}
+use Rattle.octets.proofs.Parts.{fits, written, length-written}
+use Rattle.host.specs.Calls.{callOctets, callsOctets, listed, longest, noTrace, pushOf}
 use Rattle.host.specs.declared.call.Call.{Call}
-use Rattle.host.specs.declared.call.Call.the-variants as call
-use Rattle.host.specs.declared.call.Slot.{Slot}
 use Rattle.host.specs.declared.call.Trace.{Trace}
 use Rattle.answer.specs.declared.Stop.the-variants.{Wanted, Refused}
 use Rattle.protocol.specs.Program.{ret, ask, Taken, got, wants, refused}
 use Rattle.protocol.specs.Program.{Ending, ended as comes, wanting, refusing, Played, onTaken as playOn, listing, play}
 use Rattle.protocol.specs.Ops.{Program, Reply, replyAt}
-use Rattle.protocol.specs.Step.{callsOctets}
 use Rattle.ops.specs.Run.{Ran, ended, stopped, andThen, readTo, onTaken, run, answerTo}
 
 -- ---- the calls of a play, pushed one after another
@@ -41,11 +37,11 @@ ranAs t x = endedBy (readTo (x .place) (pushAll t (x .calls))) (x .ending)
 
 push-read : (n : ℕ) (t : Trace) (c : Call) → readTo n (pushOf t c) ≡ pushOf (readTo n t) c
 unfolding pushOf
-push-read n t c = by (ltb (t .len) mostCalls)
+push-read n t c = by (fitsAt (t .octets) (t .len) (callOctets c))
   where
-    by : (b : Bool) →
-        readTo n (cond b (record { slots = set (t .slots) (t .len) (record { call = c }); len = t .len + 1; read = t .read }) t)
-        ≡ cond b (record { slots = set (t .slots) (t .len) (record { call = c }); len = t .len + 1; read = n }) (readTo n t)
+    more : ℕ → Trace
+    more read = record { octets = writeAt (t .octets) (t .len) (callOctets c); len = t .len + length (callOctets c); read = read }
+    by : (b : Bool) → readTo n (cond b (more (t .read)) t) ≡ cond b (more n) (readTo n t)
     by true = refl
     by false = refl
 
@@ -84,40 +80,51 @@ run-first s p = run-play s p noTrace
 
 -- ---- the calls listed
 
-abbrev slotOf : Call → Slot
-slotOf c = record { call = c }
+module _ (t : Trace) (c : Call) (room : t .len + length (callOctets c) ≤ length (t .octets)) where
+  pushed :
+      pushOf t c
+      ≡ record {
+        octets = writeAt (t .octets) (t .len) (callOctets c);
+        len = t .len + length (callOctets c);
+        read = t .read;
+      }
+  unfolding pushOf
+  pushed = rw (fits (t .octets) (t .len) (callOctets c) room)
 
-pushed :
-    (t : Trace) (c : Call) → t .len < mostCalls →
-    pushOf t c ≡ record { slots = set (t .slots) (t .len) (slotOf c); len = t .len + 1; read = t .read }
-unfolding pushOf
-pushed t c h = rw (lt-ltb (t .len) mostCalls h)
-
-listed-push :
-    (t : Trace) (c : Call) → length (t .slots) ≡ mostCalls → t .len < mostCalls →
-    listed (pushOf t c) ≡ listed t ++ (slotOf c ∷ [])
-unfolding listed
-listed-push t c e h =
-    let inside : t .len < length (t .slots) = omega arith in
-    rw (pushed t c h, add-one) (take-suc-set (t .slots) (t .len) (slotOf c) inside)
+  listed-push : listed (pushOf t c) ≡ listed t ++ callOctets c
+  unfolding listed
+  listed-push =
+      let w = callOctets c in
+      let before = take (t .len) (t .octets) in
+      let rest = drop (t .len + length w) (t .octets) in
+      let size : length (before ++ w) ≡ t .len + length w =
+      length-append before w ∙ ap (λ (n : ℕ). n + length w) (length-take-le (t .len) (t .octets) (omega arith)) in
+      ap listed pushed
+      ∙ ap (take (t .len + length w)) (written (t .octets) (t .len) w room ∙ sym (append-assoc before w rest))
+      ∙ ap (λ (n : ℕ). take n ((before ++ w) ++ rest)) (sym size)
+      ∙ take-append-seam (before ++ w) rest
 
 listed-all :
-    (cs : List Call) (t : Trace) → length (t .slots) ≡ mostCalls → t .len + length cs ≤ mostCalls →
-    listed (pushAll t cs) ≡ listed t ++ map slotOf cs
-listed-all [] t e h = sym (append-nil (listed t))
-listed-all (c ∷ cs) t e h =
-    let room : t .len < mostCalls = omega arith in
+    (cs : List Call) (t : Trace) → t .len + length (callsOctets cs) ≤ length (t .octets) →
+    listed (pushAll t cs) ≡ listed t ++ callsOctets cs
+unfolding callsOctets
+listed-all [] t h = sym (append-nil (listed t))
+listed-all (c ∷ cs) t h =
+    let both = length-append (callOctets c) (callsOctets cs) in
+    let room : t .len + length (callOctets c) ≤ length (t .octets) = omega arith in
     let u = pushOf t c in
-    let full : length (u .slots) ≡ mostCalls = ap (λ (v : Trace). length (v .slots)) (pushed t c room) ∙ length-set (t .slots) (t .len) (slotOf c) ∙ e in
-    let more : u .len ≡ t .len + 1 = ap (λ (v : Trace). v .len) (pushed t c room) in
-    listed-all cs u full (omega arith)
-    ∙ ap (λ (l : List Slot). l ++ map slotOf cs) (listed-push t c e room)
-    ∙ append-assoc (listed t) (slotOf c ∷ []) (map slotOf cs)
+    let full : length (u .octets) ≡ length (t .octets) =
+    ap (λ (v : Trace). length (v .octets)) (pushed t c room) ∙ length-written (t .octets) (t .len) (callOctets c) room in
+    let more : u .len ≡ t .len + length (callOctets c) = ap (λ (v : Trace). v .len) (pushed t c room) in
+    listed-all cs u (omega arith)
+    ∙ ap (λ (l : List ℕ). l ++ callsOctets cs) (listed-push t c room)
+    ∙ append-assoc (listed t) (callOctets c) (callsOctets cs)
 
--- as many as a trace has room for are the calls of the play, and have its octets
+-- as many octets as a trace has room for are those of the play's calls
 pub listed-octets :
-    (n : ℕ) (cs : List Call) → length cs ≤ mostCalls →
-    allOctets (listed (readTo n (pushAll noTrace cs))) ≡ callsOctets cs
-unfolding callsOctets listed noTrace
+    (n : ℕ) (cs : List Call) → length (callsOctets cs) ≤ longest →
+    listed (readTo n (pushAll noTrace cs)) ≡ callsOctets cs
+unfolding listed noTrace
 listed-octets n cs h =
-    ap allOctets (listed-all cs noTrace (length-replicate mostCalls (slotOf call.EnableBondedEncryption)) (omega arith))
+    let all = length-replicate {A = ℕ} longest 0 in
+    listed-all cs noTrace (omega arith)

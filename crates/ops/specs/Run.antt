@@ -21,7 +21,7 @@ andThen (stopped e t) k = stopped e t
 
 -- the trace with the place that was read to
 abbrev pub readTo : ℕ → Trace → Trace
-readTo n t = record { slots = t .slots; len = t .len; read = n }
+readTo n t = record { octets = t .octets; len = t .len; read = n }
 
 abbrev pub onTaken : {X : Type 0} → Trace → Taken X → Ran X
 onTaken t (got x n) = ended x (readTo n t)

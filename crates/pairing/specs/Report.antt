@@ -3,7 +3,7 @@ use Prim.Native.Nat.{ℕ}
 use mathlib.Core.List.{List}
 use lib.ListN.{length}
 use Rattle.octets.specs.Octets.{writeAt}
-use Rattle.host.specs.Calls.{allOctets, listed}
+use Rattle.host.specs.Calls.{listed}
 use Rattle.host.specs.declared.call.Trace.{Trace}
 use Rattle.answer.specs.declared.Stop.the-variants.{Wanted, Refused}
 use Rattle.machine.specs.declared.Machine.{Machine}
@@ -23,8 +23,8 @@ stepOf r list = record { stepped = r; list = list }
 abbrev pub listing : Outcome → Machine → List ℕ → Trace → Step
 listing o m list t =
     record {
-      stepped = record { outcome = o; machine = m; read = t .read; written = length (allOctets (listed t)) };
-      list = writeAt list 0 (allOctets (listed t));
+      stepped = record { outcome = o; machine = m; read = t .read; written = length (listed t) };
+      list = writeAt list 0 (listed t);
     }
 
 -- m is the machine before the step, m₁ the one that the input gave

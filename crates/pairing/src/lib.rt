@@ -9,6 +9,7 @@ ghost use Rattle.pairing.specs.Report.{stepOf, reported};
 use answer::Stop;
 use handlers::outcome::Finish;
 use handlers::outcome::Finished;
+use host::LONGEST;
 use machine::Input;
 use machine::Machine;
 use machine::Role;
@@ -16,9 +17,6 @@ pub use protocol::Outcome;
 pub use protocol::Stepped;
 use types::Command;
 use types::TryCommand;
-
-// The octets of the longest step's calls.
-const LONGEST: usize = 164;
 
 // The machine given back as it was, and counts 0.
 fn refused(machine: Machine, number: u8) -> Stepped

@@ -11,7 +11,7 @@ use Rattle.bond.specs.declared.Address.{Address}
 use Rattle.bond.specs.declared.BondInformation.{BondInformation}
 use Rattle.bond.specs.declared.Error.{Error}
 use Rattle.bond.specs.declared.OptionBond.{OptionBond}
-use Rattle.host.specs.Calls.{callOctets, allOctets}
+use Rattle.host.specs.Calls.{callOctets, callsOctets}
 use Rattle.host.specs.declared.call.Call.{Call}
 use Rattle.host.specs.declared.call.Call.the-variants as call
 use Rattle.host.specs.declared.call.ConnectionEvent.{ConnectionEvent}
@@ -29,7 +29,6 @@ use Rattle.machine.specs.declared.PairingData.{PairingData}
 use Rattle.protocol.specs.Program.{ret, ask, bind, Taken, got, wants, refused, Ending, ended, wanting, refusing, Played, onTaken, listing, play}
 use Rattle.protocol.specs.Ops.{Delivery, delivered, undelivered, Reply, replyAt, Program}
 use Rattle.protocol.specs.Handlers.{enters, Try, ok, err, Handler, onTry, orFail, onDelivery, onAddress, onBond, onOptionBond}
-use Rattle.protocol.specs.Step.{callsOctets}
 use Rattle.protocol.proofs.Programs.{OfEnding}
 
 -- ---- bounds of a program
@@ -254,13 +253,13 @@ pub record PlaysWithin {A : Type 0} (P : A → Type 0) (n o : ℕ) (x : Played C
 
 none-listed : {A : Type 0} (P : A → Type 0) (n o at : ℕ) (x : Ending A) → OfEnding P x →
     PlaysWithin P n o (record { ending = x; calls = []; place = at })
-unfolding callsOctets allOctets
+unfolding callsOctets
 none-listed P n o at x h = record { most = omega arith; size = omega arith; gives = h }
 
 one-listed :
     {A : Type 0} (P : A → Type 0) (n o : ℕ) (c : Call) (x : Played Call A) → 1 ≤ n → length (callOctets c) ≤ o →
     PlaysWithin P (n - 1) (o - length (callOctets c)) x → PlaysWithin P n o (listing c x)
-unfolding callsOctets allOctets
+unfolding callsOctets
 one-listed P n o c x h g w =
     record {
       most = omega (arith, w .most);

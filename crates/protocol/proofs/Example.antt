@@ -11,7 +11,7 @@ use Rattle.octets.specs.Octets.{writeAt}
 use Rattle.octets.proofs.Parts.{written}
 use Rattle.types.specs.declared.types.Reason.the-variants as reason
 use Rattle.bond.specs.declared.Error.the-variants.{Security}
-use Rattle.host.specs.Calls.{callOctets, allOctets}
+use Rattle.host.specs.Calls.{callOctets, callsOctets, longest}
 use Rattle.answer.specs.Answers.{bodyAt, verdictAt}
 use Rattle.machine.specs.Machine.{noConfirmData}
 use Rattle.machine.specs.declared.ConfirmBytes.{ConfirmBytes}
@@ -29,7 +29,7 @@ use Rattle.protocol.specs.declared.Outcome.the-variants as outcome
 use Rattle.protocol.specs.Handlers.{enter, enters}
 use Rattle.protocol.specs.LegacyCentral as central
 use Rattle.protocol.specs.LegacyPeripheral as peripheral
-use Rattle.protocol.specs.Step.{playOf, callsOctets, Step, longest, step}
+use Rattle.protocol.specs.Step.{playOf, Step, step}
 
 abbrev typing : ConfirmBytes → ConfirmPhaseData → PairingData → Machine
 typing b c d = record { phase = phase.WaitingPassKeyInput b; «confirm_data» = c; «pairing_data» = d }
@@ -56,7 +56,7 @@ pub example-wants :
     step r (typing b c d) cancel [] [] list
     ≡ listed outcome.Wants (typing b c d) 0 (0x20 ∷ 0x01 ∷ 0x01 ∷ drop 3 list)
 unfolding step playOf central.«handle_input» peripheral.«handle_input» central.transition peripheral.transition enter
-    callsOctets allOctets callOctets verdictAt bodyAt
+    callsOctets callOctets verdictAt bodyAt
 example-wants Central b c d list h =
     rw (le-ltb (length list) longest h) (ap (listed outcome.Wants (typing b c d) 0) (front list h 0x20 0x01 0x01))
 example-wants Peripheral b c d list h =
@@ -68,7 +68,7 @@ pub example-ends :
     step r (typing b c d) cancel [] (0x20 ∷ 0x00 ∷ []) list
     ≡ listed outcome.Ended (entryFailed d) 2 (0x20 ∷ 0x01 ∷ 0x01 ∷ drop 3 list)
 unfolding step playOf central.«handle_input» peripheral.«handle_input» central.transition peripheral.transition enter
-    callsOctets allOctets callOctets verdictAt bodyAt
+    callsOctets callOctets verdictAt bodyAt
 example-ends Central b c d list h =
     rw (le-ltb (length list) longest h) (ap (listed outcome.Ended (entryFailed d) 2) (front list h 0x20 0x01 0x01))
 example-ends Peripheral b c d list h =

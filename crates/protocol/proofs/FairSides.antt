@@ -7,7 +7,7 @@ use mathlib.Core.Option.{Option, none, some}
 use native.Mathlib.Omega.{arith}
 use lib.Dec.{eqb}
 use lib.ListN.{replicate}
-use Rattle.host.specs.Calls.{packetCommand, kindOf}
+use Rattle.host.specs.Calls.{packetCommand, kindOf, longest}
 use Rattle.host.specs.declared.call.Call.{Call}
 use Rattle.host.specs.declared.call.Call.the-variants as call
 use Rattle.machine.specs.declared.Input.the-variants as input
@@ -15,7 +15,7 @@ use Rattle.machine.specs.declared.Machine.{Machine}
 use Rattle.machine.specs.declared.Role.{Role}
 use Rattle.protocol.specs.Program.{Ending, ended, wanting, refusing, Played, play}
 use Rattle.protocol.specs.Ops.{replyAt, Program}
-use Rattle.protocol.specs.Step.{handleInput, playOf, isKnown, longest, stepped, step}
+use Rattle.protocol.specs.Step.{handleInput, playOf, isKnown, stepped, step}
 use Rattle.protocol.specs.FairLink.{Start, Shared, FairAnswers, QueuedPacket, Due, passKey, oobData, encryptionOn, Given, aPacket, anEvent, inputOf, payloadOf, OpenStep, End, Link, ofAll, sentBy, hasListed, madeDueBy, madeDueByAll, machineAt, stepAt, FairHost, openAfter}
 use Rattle.protocol.specs.FairRuns.{responseIn, encryptionIn, NotRefused}
 use Rattle.protocol.proofs.Codes.{code-known}

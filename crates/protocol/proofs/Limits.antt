@@ -18,7 +18,7 @@ use Rattle.types.specs.declared.types.UseOutOfBand.the-variants.{NotPresent}
 use Rattle.util.specs.declared.util.PairingMethod.the-variants.{JustWorks}
 use Rattle.bond.specs.Bond.{bdAddrOctets, addressOctets, addressOf, bondOctets, bondWith}
 use Rattle.bond.specs.declared.OptionBond.the-variants as option
-use Rattle.host.specs.Calls.{callOctets, allOctets, mostCalls}
+use Rattle.host.specs.Calls.{callOctets, mostCalls, callsOctets, longest}
 use Rattle.host.specs.declared.call.Call.{Call}
 use Rattle.answer.specs.Answers.{bodyAt, verdictAt, ltkAt, edivAt, randAt, irkAt, addressAt}
 use Rattle.machine.specs.Machine.{Canonical, newData, noConfirmData, wantBonding}
@@ -34,7 +34,7 @@ use Rattle.protocol.specs.Program.{bind, Ending, ended, wanting, refusin
 use Rattle.protocol.specs.Handlers.{Handler, entered, enters, withFeatures, withBond, withKeys, enter, sendEncryptionKey, sendIdentityKey}
 use Rattle.protocol.specs.LegacyCentral as central
 use Rattle.protocol.specs.LegacyPeripheral as peripheral
-use Rattle.protocol.specs.Step.{handleInput, playOf, callsOctets, longest, stepped, step}
+use Rattle.protocol.specs.Step.{handleInput, playOf, stepped, step}
 use Rattle.protocol.specs.declared.Outcome.the-variants as outcome
 use Rattle.protocol.proofs.StepLaws.{step-list, step-gives}
 use Rattle.protocol.proofs.Programs.{OfEnding}
@@ -153,13 +153,13 @@ pub peripheral-reached : Reaches (longestPlay Peripheral (encrypting (bonding 0 
 unfolding peripheral.«handle_input» peripheral.transition peripheral.«handle_link_encrypted_success»
     peripheral.sendKeysOrAwaitIdentity peripheral.«send_all_keys» peripheral.awaitKeys peripheral.awaitIdentityOrSucceed
     sendEncryptionKey sendIdentityKey enter wantBonding withKeys newData playOf bodyAt verdictAt ltkAt edivAt randAt
-    irkAt addressAt callsOctets allOctets callOctets octetsOf bdAddrOctets addressOctets bondOctets
+    irkAt addressAt callsOctets callOctets octetsOf bdAddrOctets addressOctets bondOctets
 peripheral-reached = (refl, refl)
 
 -- by the central where the peripheral names both keys as the initiator's, and none of its own
 pub central-reached : Reaches (longestPlay Central (encrypting (bonding 3 0) (bonding 3 0)))
 unfolding central.«handle_input» central.transition central.«handle_link_encrypted_success» central.awaitKeys
     central.awaitIdentityOrSend central.«send_all_keys» sendEncryptionKey sendIdentityKey enter wantBonding newData playOf
-    bodyAt verdictAt ltkAt edivAt randAt irkAt addressAt callsOctets allOctets callOctets octetsOf bdAddrOctets
+    bodyAt verdictAt ltkAt edivAt randAt irkAt addressAt callsOctets callOctets octetsOf bdAddrOctets
     addressOctets bondOctets
 central-reached = (refl, refl)

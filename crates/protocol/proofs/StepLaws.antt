@@ -3,17 +3,14 @@
 use Prim.Native.Nat.{ℕ, _≤_, _<_}
 use mathlib.Core.Path.{_≡_, refl, sym, ap, _∙_, subst}
 use mathlib.Core.Bool.{Bool, true, false, cond}
-use mathlib.Core.List.{List, [], _∷_, _++_, map, append-assoc, append-nil}
+use mathlib.Core.List.{List, [], _∷_, _++_, append-assoc, append-nil}
 use native.Mathlib.Nat.{zero-add}
 use lib.Dec.{ltb}
 use lib.ListN.{length, take}
 use borrow.Author.Tests.{lt-ltb, le-ltb}
-use Rattle.octets.specs.Answer.{accepted}
 use Rattle.octets.specs.Octets.{writeAt}
-use Rattle.host.specs.Calls.{callOctets, allOctets}
-use Rattle.call_list.specs.CallList.{callsOf, recordsFrom}
+use Rattle.host.specs.Calls.{callOctets, callsOctets, longest}
 use Rattle.host.specs.declared.call.Call.{Call}
-use Rattle.call_list.proofs.Listing.{read-back}
 use Rattle.machine.specs.declared.Input.{Input}
 use Rattle.machine.specs.declared.Machine.{Machine}
 use Rattle.machine.specs.declared.Role.{Role}
@@ -21,7 +18,7 @@ use Rattle.protocol.specs.declared.Outcome.{Outcome}
 use Rattle.protocol.specs.declared.Outcome.the-variants as outcome
 use Rattle.protocol.specs.Program.{ask, Ending, ended, wanting, refusing, Played, play}
 use Rattle.protocol.specs.Ops.{Reply, answerSize, replyAt, Program}
-use Rattle.protocol.specs.Step.{handleInput, playOf, callsOctets, Step, longest, refusedBy, stepped, isKnown, step}
+use Rattle.protocol.specs.Step.{handleInput, playOf, Step, refusedBy, stepped, isKnown, step}
 use Rattle.protocol.proofs.Programs.{OfEnding, total, place-ended, place-wanting, wanting-last}
 use Rattle.protocol.proofs.Programs.{rest, answered, play-left-over, play-again}
 use Rattle.protocol.proofs.Programs.{again-ending, again-place, again-calls, again-further}
@@ -30,22 +27,16 @@ use Rattle.protocol.proofs.Replies.{reads, reply-size}
 -- ---- the octets of calls
 
 pub callsOctets-append : (a b : List Call) → callsOctets (a ++ b) ≡ callsOctets a ++ callsOctets b
-unfolding callsOctets allOctets
+unfolding callsOctets
 callsOctets-append [] b = refl
 callsOctets-append (c ∷ a) b =
     ap (λ (l : List ℕ). callOctets c ++ l) (callsOctets-append a b)
     ∙ sym (append-assoc (callOctets c) (callsOctets a) (callsOctets b))
 
 callsOctets-last : (cs : List Call) (c : Call) → callsOctets (cs ++ (c ∷ [])) ≡ callsOctets cs ++ callOctets c
-unfolding callsOctets allOctets
+unfolding callsOctets
 callsOctets-last cs c =
     callsOctets-append cs (c ∷ []) ∙ ap (λ (l : List ℕ). callsOctets cs ++ l) (append-nil (callOctets c))
-
--- the octets of a step's calls, read as a call list, are the kinds and places of these calls
-pub callsOctets-read :
-    (cs : List Call) → callsOf (callsOctets cs) ≡ accepted (recordsFrom 0 (map (λ c. record { call = c }) cs))
-unfolding callsOctets
-callsOctets-read cs = read-back (map (λ c. record { call = c }) cs)
 
 -- ---- from the outcome of a step to how its play came out
 

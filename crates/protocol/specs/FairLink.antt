@@ -18,7 +18,7 @@ use Rattle.util.specs.declared.util.PairingMethod.the-variants as method
 use Rattle.util.specs.declared.util.PassKeyEntryAction.the-variants as action
 use Rattle.bond.specs.declared.Address.{Address}
 use Rattle.bond.specs.declared.OptionBond.the-variants as option
-use Rattle.host.specs.Calls.{packetCommand, packetBody, kindOf}
+use Rattle.host.specs.Calls.{packetCommand, packetBody, kindOf, longest}
 use Rattle.host.specs.declared.call.Call.{Call}
 use Rattle.host.specs.declared.call.Call.the-variants as call
 use Rattle.answer.specs.Answers.{passKeyMax}
@@ -41,7 +41,7 @@ use Rattle.protocol.specs.declared.Outcome.the-variants as outcome
 use Rattle.protocol.specs.Program.{ret, ask, Taken, got, wants, refused}
 use Rattle.protocol.specs.Ops.{delivered, Sort, aVerdict, aFlag, anIrk, anAddress, aNonce, aPassKey, anLtk, anEdiv, aRand, aBond, anOptionBond, Holds, replySort, replyAt, Program}
 use Rattle.protocol.specs.Handlers.{namesEncryptionKey, namesIdentityKey}
-use Rattle.protocol.specs.Step.{handleInput, playOf, Step, longest, step}
+use Rattle.protocol.specs.Step.{handleInput, playOf, Step, step}
 
 -- ---- Fresh
 

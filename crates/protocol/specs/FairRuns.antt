@@ -19,6 +19,7 @@ use Rattle.util.specs.declared.util.PassKeyEntryAction.{PassKeyEntryAction}
 use Rattle.util.specs.declared.util.PassKeyEntryAction.the-variants as action
 use Rattle.bond.specs.declared.BondInformation.{BondInformation}
 use Rattle.bond.specs.declared.OptionBond.the-variants as option
+use Rattle.host.specs.Calls.{longest}
 use Rattle.host.specs.declared.call.Call.{Call}
 use Rattle.host.specs.declared.call.Call.the-variants as call
 use Rattle.host.specs.declared.call.Packet.the-variants as packet
@@ -32,7 +33,7 @@ use Rattle.protocol.specs.declared.Outcome.{Outcome}
 use Rattle.protocol.specs.declared.Outcome.the-variants as outcome
 use Rattle.protocol.specs.declared.Stepped.{Stepped}
 use Rattle.protocol.specs.Handlers.{namesEncryptionKey, namesIdentityKey, smaller}
-use Rattle.protocol.specs.Step.{longest, step}
+use Rattle.protocol.specs.Step.{step}
 use Rattle.protocol.specs.FairLink.{Start, FairStart, Shared, Link, freshLink, ofAll, MoveKind, Move, outcomeOf, Moves, Run, Idle}
 
 -- ---- entries: 1 where the method has one end type, 2 where it has both type or is OOB, else 0

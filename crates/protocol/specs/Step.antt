@@ -2,13 +2,13 @@
 -- role, refusals, and what the caller gets. Assumes nothing.
 use Prim.Native.Nat.{ℕ}
 use mathlib.Core.Bool.{Bool, true, false, cond}
-use mathlib.Core.List.{List, map}
+use mathlib.Core.List.{List}
 use lib.Dec.{ltb}
 use lib.ListN.{length}
 use Rattle.octets.specs.Answer.{Answer, refused, accepted}
 use Rattle.octets.specs.Octets.{writeAt}
 use Rattle.types.specs.Types.{commandOf}
-use Rattle.host.specs.Calls.{allOctets}
+use Rattle.host.specs.Calls.{callsOctets, longest}
 use Rattle.host.specs.declared.call.Call.{Call}
 use Rattle.machine.specs.declared.Input.{Input}
 use Rattle.machine.specs.declared.Input.the-variants as input
@@ -32,18 +32,10 @@ handleInput Peripheral m i payload = peripheral.«handle_input» m i payload
 unfoldable pub playOf : Role → Machine → Input → List ℕ → List ℕ → Played Call Machine
 playOf r m i payload answers = play replyAt answers (handleInput r m i payload) 0
 
--- the octets of calls, one after another
-unfoldable pub callsOctets : List Call → List ℕ
-callsOctets cs = allOctets (map (λ c. record { call = c }) cs)
-
 -- what a step gives back: the result, and the call list behind it
 pub record Step : Type 0 where
   pub stepped : Stepped
   pub list : List ℕ
-
--- the octets of the longest step's calls
-abbrev pub longest : ℕ
-longest = 164
 
 -- a refused step: the machine given, counts 0, the list untouched
 abbrev pub refusedBy : ℕ → Machine → List ℕ → Step
