@@ -23,8 +23,9 @@ use Rattle.ops.specs.declared.Delivered.the-variants as verdict
 use Rattle.ops.specs.declared.Halt.{Halt}
 use Rattle.ops.specs.declared.Halt.the-variants as halt
 use Rattle.ops.proofs.Laws.{run-bind, and-and}
-use Rattle.handlers.specs.Outcomes.{ranOutcome, outcomeOf, notOf, halted, ranSending}
+use Rattle.handlers.specs.Outcomes.{ranOutcome, outcomeOf, notOf, halted, ranSending, ranData, dataOf}
 use Rattle.handlers.specs.Inputs.{isCommand, linkEncryptedIn, passKeyIn, isPassKeyCancel, oobDataIn}
+use Rattle.handlers.specs.declared.outcome.DataSent.{DataSent}
 use Rattle.handlers.specs.declared.outcome.Outcome.{Outcome}
 
 pub ran-outcome : (c : ConfirmPhaseData) (d : PairingData) (x : Ran (Try Machine)) → ranOutcome (outcomeOf c d x) ≡ x
@@ -40,6 +41,15 @@ pub outcome-halted :
     (c : ConfirmPhaseData) (d : PairingData) (t : Trace) (h : Halt) → outcomeOf c d (halted t d h) ≡ notOf t c d h
 outcome-halted c d t (halt.Failed e) = refl
 outcome-halted c d t (halt.Stop e) = refl
+
+-- .. and data that are a run's
+ran-dataOf : (d : PairingData) (x : Ran (Try PairingData)) → ranData (dataOf d x) ≡ x
+ran-dataOf d (ended (ok d₁) t) = refl
+ran-dataOf d (ended (err d₁ e) t) = refl
+ran-dataOf d (stopped e t) = refl
+
+pub ran-data : {r : DataSent} (d : PairingData) (x : Ran (Try PairingData)) → r ≡ dataOf d x → ranData r ≡ x
+ran-data d x e = ap ranData e ∙ ran-dataOf d x
 
 -- ---- one handler after another
 

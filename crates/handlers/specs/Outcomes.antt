@@ -91,6 +91,21 @@ outcomeOf c d (ended (ok m) t) = sameOf t m
 outcomeOf c d (ended (err d₁ e) t) = notOf t c d₁ (halt.Failed e)
 outcomeOf c d (stopped e t) = notOf t c d (halt.Stop e)
 
+-- .. as parts that give data
+abbrev pub dataOf : PairingData → Ran (Try PairingData) → DataSent
+dataOf d (ended (ok d₁) t) = record { trace = t; «pairing_data» = d₁; answer = verdict.Yes }
+dataOf d (ended (err d₁ e) t) = record { trace = t; «pairing_data» = d₁; answer = verdict.Not (halt.Failed e) }
+dataOf d (stopped e t) = record { trace = t; «pairing_data» = d; answer = verdict.Not (halt.Stop e) }
+
+-- confirm data that were sent: those given where the part goes no further
+abbrev pub keptConfirm : ConfirmPhaseData → Delivered → ConfirmPhaseData → ConfirmPhaseData
+keptConfirm c verdict.Yes c₁ = c₁
+keptConfirm c (verdict.Not h) c₁ = c
+
+abbrev pub SendsConfirm : List ℕ → Trace → ConfirmPhaseData → PairingData → Handler ConfirmPhaseData → ConfirmSent → Type 0
+SendsConfirm s t c d p r =
+    (ranConfirm d r ≡ run s p t) × (r .«confirm_data» ≡ keptConfirm c (r .answer) (r .«confirm_data»))
+
 -- the outcome of a handler without host calls, on any answers
 abbrev pub Gives : Trace → ConfirmPhaseData → PairingData → Handler Machine → Outcome → Type 0
 Gives t c d p r = (s : List ℕ) → r ≡ outcomeOf c d (run s p t)

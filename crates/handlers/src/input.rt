@@ -115,24 +115,18 @@ pub fn other_input(trace: Trace, current: Machine, input: Input, payload: &[u8])
                 let error = Error::Security(reason);
                 return Outcome::failed(trace, confirm_data, pairing_data, error);
             }
-            Outcome::failed(trace, confirm_data, pairing_data, Error::InvalidState)
+            return Outcome::failed(trace, confirm_data, pairing_data, Error::InvalidState);
         }
         Input::Event(event) => match event {
-            Event::LinkEncryptedResult(_) => Outcome::failed(
-                trace,
-                confirm_data,
-                pairing_data,
-                Error::InvalidState,
-            ),
-            Event::PassKeyConfirm => Outcome::same(trace, current),
-            Event::PassKeyCancel => Outcome::same(trace, current),
-            Event::PassKeyInput(_) => Outcome::same(trace, current),
-            Event::OobDataReceived(_) => Outcome::failed(
-                trace,
-                confirm_data,
-                pairing_data,
-                Error::InvalidState,
-            ),
+            Event::LinkEncryptedResult(_) => {
+                return Outcome::failed(trace, confirm_data, pairing_data, Error::InvalidState);
+            }
+            Event::PassKeyConfirm => return Outcome::same(trace, current),
+            Event::PassKeyCancel => return Outcome::same(trace, current),
+            Event::PassKeyInput(_) => return Outcome::same(trace, current),
+            Event::OobDataReceived(_) => {
+                return Outcome::failed(trace, confirm_data, pairing_data, Error::InvalidState);
+            }
         },
     }
 }

@@ -2,7 +2,7 @@
 ghost use mathlib.Core.Path.{_≡_};
 ghost use mathlib.Core.Bool.{true};
 ghost use Rattle.types.specs.declared.types.Command.the-variants as command;
-ghost use Rattle.machine.specs.Machine.{zeroWord};
+ghost use Rattle.machine.specs.Machine.{noConfirmData};
 ghost use Rattle.protocol.specs.Handlers.{confirmData, enter, entered, enterBonded, enterSuccess, enableEncryption, onCommand, otherInput, «store_confirm_bytes», «handle_encryption_information», «handle_identity_information»};
 ghost use Rattle.ops.specs.Run.{run, andThen};
 ghost use Rattle.handlers.specs.Outcomes.{ranOutcome, outcomeOf, Gives, finishedOf};
@@ -141,14 +141,16 @@ pub fn enter(trace: Trace, answers: &[u8], current: Machine, next: Machine) -> F
     match phase {
         Phase::Error(error) => {
             let event = ConnectionEvent::PairingFailed(error);
-            attempt_event(trace, answers, current, next, event)
+            return attempt_event(trace, answers, current, next, event);
         }
-        Phase::Success => enter_success(trace, answers, current, next),
-        _ => Finished {
-            trace,
-            machine: next,
-            finish: Finish::Ended,
-        },
+        Phase::Success => return enter_success(trace, answers, current, next),
+        _ => {
+            return Finished {
+                trace,
+                machine: next,
+                finish: Finish::Ended,
+            };
+        }
     }
 }
 
@@ -167,7 +169,7 @@ pub fn settle(turned: Outcome, answers: &[u8], current: Machine) -> Finished
                 confirm_data,
                 pairing_data,
             };
-            enter(trace, answers, current, next)
+            return enter(trace, answers, current, next);
         }
         End::Not(halt) => match halt {
             Halt::Failed(error) => {
@@ -177,13 +179,15 @@ pub fn settle(turned: Outcome, answers: &[u8], current: Machine) -> Finished
                     confirm_data: none,
                     pairing_data,
                 };
-                enter(trace, answers, current, next)
+                return enter(trace, answers, current, next);
             }
-            Halt::Stop(stop) => Finished {
-                trace,
-                machine: current,
-                finish: Finish::Stop(stop),
-            },
+            Halt::Stop(stop) => {
+                return Finished {
+                    trace,
+                    machine: current,
+                    finish: Finish::Stop(stop),
+                };
+            }
         },
     }
 }
@@ -216,15 +220,16 @@ pub fn request_oob_data(
     pres: [u8; 7],
     pairing_data: PairingData,
 ) -> Outcome
-    ensures { λ r. ⌜ r ≡ outcomeOf (confirmData zeroWord preq pres) «pairing_data» (run (now (answers .entry)) (requestOobData preq pres «pairing_data») trace) ⌝ }
+    ensures { λ r. ⌜ r ≡ outcomeOf noConfirmData «pairing_data» (run (now (answers .entry)) (requestOobData preq pres «pairing_data») trace) ⌝ }
 {
-    let confirm_data = confirm_phase_data(Word128 { low: 0, high: 0 }, preq, pres);
     let sent = try_send_connection_event(trace, answers, ConnectionEvent::OobRequest);
     let trace1 = sent.trace;
     let answer = sent.answer;
     let Delivered::Yes = answer else {
-        return Outcome::not(trace1, confirm_data, pairing_data, answer.halt());
+        let none = ConfirmPhaseData::none();
+        return Outcome::not(trace1, none, pairing_data, answer.halt());
     };
+    let confirm_data = confirm_phase_data(Word128 { low: 0, high: 0 }, preq, pres);
     Outcome::next(trace1, confirm_data, pairing_data, Phase::WaitingOobData)
 }
 
@@ -235,15 +240,16 @@ pub fn request_pass_key(
     pres: [u8; 7],
     pairing_data: PairingData,
 ) -> Outcome
-    ensures { λ r. ⌜ r ≡ outcomeOf (confirmData zeroWord preq pres) «pairing_data» (run (now (answers .entry)) (requestPassKey preq pres «pairing_data») trace) ⌝ }
+    ensures { λ r. ⌜ r ≡ outcomeOf noConfirmData «pairing_data» (run (now (answers .entry)) (requestPassKey preq pres «pairing_data») trace) ⌝ }
 {
-    let confirm_data = confirm_phase_data(Word128 { low: 0, high: 0 }, preq, pres);
     let sent = try_send_connection_event(trace, answers, ConnectionEvent::PassKeyInput);
     let trace1 = sent.trace;
     let answer = sent.answer;
     let Delivered::Yes = answer else {
-        return Outcome::not(trace1, confirm_data, pairing_data, answer.halt());
+        let none = ConfirmPhaseData::none();
+        return Outcome::not(trace1, none, pairing_data, answer.halt());
     };
+    let confirm_data = confirm_phase_data(Word128 { low: 0, high: 0 }, preq, pres);
     let confirm_bytes = ConfirmBytes::None;
     Outcome::next(
         trace1,

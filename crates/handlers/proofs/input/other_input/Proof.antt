@@ -50,20 +50,20 @@ other-input-spec =
     (λ c κs. search needs)
     returns-2
     (λ c κs. search needs)
-    (λ c. search needs)
-    (λ c. search needs)
-    (λ c κs. search needs)
-    (λ c. search needs)
-    (λ c κs. search needs)
-    (λ c. search needs)
-    (λ c κs. search needs)
-    (λ c. search needs)
-    (λ c κs. search needs)
-    (λ c. search needs)
-    (λ c κs. search needs)
     returns-3
+    (λ c. search needs)
+    (λ c. search needs)
+    (λ c κs. search needs)
     returns-4
+    (λ c. search needs)
+    (λ c κs. search needs)
     returns-5
+    (λ c. search needs)
+    (λ c κs. search needs)
     returns-6
+    (λ c. search needs)
+    (λ c κs. search needs)
     returns-7
+    (λ c. search needs)
+    (λ c κs. search needs)
     returns-8)

@@ -37,8 +37,8 @@ enter-spec =
     (tie.spec
     (λ c. search needs)
     (λ c κs. search needs)
+    returns
     (λ c. search needs)
     (λ c κs. search needs)
-    returns
     returns-2
     returns-3)
