@@ -44,12 +44,20 @@ outcome-halted c d t (halt.Stop e) = refl
 
 -- .. and data that are a run's
 ran-dataOf : (d : PairingData) (x : Ran (Try PairingData)) → ranData (dataOf d x) ≡ x
+unfolding dataOf
 ran-dataOf d (ended (ok d₁) t) = refl
 ran-dataOf d (ended (err d₁ e) t) = refl
 ran-dataOf d (stopped e t) = refl
 
 pub ran-data : {r : DataSent} (d : PairingData) (x : Ran (Try PairingData)) → r ≡ dataOf d x → ranData r ≡ x
 ran-data d x e = ap ranData e ∙ ran-dataOf d x
+
+pub data-halted :
+    (d : PairingData) (t : Trace) (h : Halt) →
+    dataOf d (halted t d h) ≡ record { trace = t; «pairing_data» = d; answer = verdict.Not h }
+unfolding dataOf
+data-halted d t (halt.Failed e) = refl
+data-halted d t (halt.Stop e) = refl
 
 -- ---- one handler after another
 

@@ -92,7 +92,7 @@ outcomeOf c d (ended (err d₁ e) t) = notOf t c d₁ (halt.Failed e)
 outcomeOf c d (stopped e t) = notOf t c d (halt.Stop e)
 
 -- .. as parts that give data
-abbrev pub dataOf : PairingData → Ran (Try PairingData) → DataSent
+unfoldable pub dataOf : PairingData → Ran (Try PairingData) → DataSent
 dataOf d (ended (ok d₁) t) = record { trace = t; «pairing_data» = d₁; answer = verdict.Yes }
 dataOf d (ended (err d₁ e) t) = record { trace = t; «pairing_data» = d₁; answer = verdict.Not (halt.Failed e) }
 dataOf d (stopped e t) = record { trace = t; «pairing_data» = d; answer = verdict.Not (halt.Stop e) }

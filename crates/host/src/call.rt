@@ -423,7 +423,11 @@ impl Trace {
     pub fn size(self) -> usize
         ensures { λ r. ⌜ r ≡ length (listed self) ⌝ }
     {
-        if self.len < LONGEST { self.len } else { LONGEST }
+        if self.len < LONGEST {
+            self.len
+        } else {
+            LONGEST
+        }
     }
 
     // Lays the calls over list from its beginning on, as `octets::write` does.

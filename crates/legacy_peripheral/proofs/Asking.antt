@@ -13,7 +13,7 @@ use Rattle.protocol.specs.LegacyPeripheral.{bondLost, identityOffered, response
 use Rattle.ops.specs.Run.{andThen, run}
 use Rattle.ops.proofs.Laws.{run-bind}
 use Rattle.handlers.proofs.Outcoming.{run-assoc}
-use Rattle.legacy_peripheral.specs.Requests.{reportBondLost, negotiatedOn, negotiated, respond, respondTo, onRequest}
+use Rattle.peripheral_helpers.specs.Requests.{reportBondLost, negotiatedOn, negotiated, respond, respondTo, onRequest}
 
 pub request-then :
     (s : List ℕ) (d : PairingData) (payload : List ℕ) (t : Trace) →

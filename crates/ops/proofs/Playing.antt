@@ -41,6 +41,7 @@ push-read n t c = by (fitsAt (t .octets) (t .len) (callOctets c))
   where
     more : ℕ → Trace
     more read = record { octets = writeAt (t .octets) (t .len) (callOctets c); len = t .len + length (callOctets c); read = read }
+
     by : (b : Bool) → readTo n (cond b (more (t .read)) t) ≡ cond b (more n) (readTo n t)
     by true = refl
     by false = refl

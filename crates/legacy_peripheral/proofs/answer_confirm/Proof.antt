@@ -5,10 +5,10 @@ use Rattle.legacy_peripheral.proofs.answer_confirm.Statement.{statement
 use Rattle.legacy_peripheral.proofs.answer_confirm.Tie as tie
 
 returns : tie.Need-returns
-returns c = rw (c .not .ensures, c .before .halt .ensures, run-bind, ← c .before .before .before .before .before .before .send-sconfirm .ensures, c .before .before .enum-told2 .given .1, and-halt)
+returns c = rw (c .not .ensures, c .before .halt .ensures, run-bind, ← c .before .before .before .before .before .before .send-sconfirm .ensures .0, c .before .before .enum-told2 .given .1, and-halt)
 
 returns-2 : tie.Need-returns-2
-returns-2 c = rw (c .next .ensures, run-bind, ← c .before .before .before .before .before .send-sconfirm .ensures, c .before .enum-told .given .1)
+returns-2 c = rw (c .next .ensures, run-bind, ← c .before .before .before .before .before .send-sconfirm .ensures .0, c .before .enum-told .given .1)
 
 pub answer-confirm-spec : {M : Type 1} → statement M
 answer-confirm-spec =

@@ -1,6 +1,7 @@
 -- `legacy_peripheral::send_all_keys` meets its contract. Assumes nothing.
 use Rattle.ops.proofs.Laws.{and-halt, run-bind}
 use denote.Ref.{now}
+use Rattle.handlers.proofs.Outcoming.{ran-data}
 use Rattle.protocol.specs.LegacyPeripheral.{«send_all_keys»}
 use borrow.Author.Needs.{needs}
 use Rattle.legacy_peripheral.proofs.send_all_keys.Statement.{statement}
@@ -8,15 +9,15 @@ use Rattle.legacy_peripheral.proofs.send_all_keys.Tie as tie
 
 returns : tie.Need-returns
 unfolding «send_all_keys»
-returns c = rw (c .not .ensures, c .before .halt .ensures, run-bind, ← c .before .before .before .before .before .before .send-encryption-keys .ensures, c .before .before .enum-told2 .given .1, and-halt)
+returns c = rw (c .not .ensures, c .before .halt .ensures, run-bind, ← ran-data _ _ (c .before .before .before .before .before .before .send-encryption-keys .ensures), c .before .before .enum-told2 .given .1, and-halt)
 
 returns-2 : tie.Need-returns-2
 unfolding «send_all_keys»
-returns-2 c = rw (c .not2 .ensures, c .before .halt2 .ensures, run-bind, ← c .before .before .before .before .before .before .before .before .before .before .send-encryption-keys .ensures, c .before .before .before .before .before .before .enum-told .given .1, run-bind, ← c .before .before .before .before .before .send-identity-keys .ensures (c .before .before .before .before .before .before .before .before .before .before .send-encryption-keys .result .«pairing_data»), c .before .before .enum-told4 .given .1, and-halt)
+returns-2 c = rw (c .not2 .ensures, c .before .halt2 .ensures, run-bind, ← ran-data _ _ (c .before .before .before .before .before .before .before .before .before .before .send-encryption-keys .ensures), c .before .before .before .before .before .before .enum-told .given .1, run-bind, ← c .before .before .before .before .before .send-identity-keys .ensures (c .before .before .before .before .before .before .before .before .before .before .send-encryption-keys .result .«pairing_data»), c .before .before .enum-told4 .given .1, and-halt)
 
 returns-3 : tie.Need-returns-3
 unfolding «send_all_keys»
-returns-3 c = rw (run-bind, ← c .before .before .before .before .before .before .before .before .before .send-encryption-keys .ensures, c .before .before .before .before .before .enum-told .given .1, run-bind, ← c .before .before .before .before .send-identity-keys .ensures (c .before .before .before .before .before .before .before .before .before .send-encryption-keys .result .«pairing_data»), c .before .enum-told3 .given .1) (c .receive-keys .ensures (now (c .before .before .before .before .before .before .before .before .before .before .before .before .before .args .answers)))
+returns-3 c = rw (run-bind, ← ran-data _ _ (c .before .before .before .before .before .before .before .before .before .send-encryption-keys .ensures), c .before .before .before .before .before .enum-told .given .1, run-bind, ← c .before .before .before .before .send-identity-keys .ensures (c .before .before .before .before .before .before .before .before .before .send-encryption-keys .result .«pairing_data»), c .before .enum-told3 .given .1) (c .receive-keys .ensures (now (c .before .before .before .before .before .before .before .before .before .before .before .before .before .args .answers)))
 
 pub send-all-keys-spec : {M : Type 1} → statement M
 send-all-keys-spec =

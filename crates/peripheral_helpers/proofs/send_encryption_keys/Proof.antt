@@ -1,0 +1,23 @@
+-- `peripheral_helpers::send_encryption_keys` meets its contract. Assumes nothing.
+use Rattle.protocol.specs.Handlers.{sendEncryptionKey}
+use Rattle.handlers.specs.Outcomes.{dataOf}
+use borrow.Author.Needs.{needs}
+use Rattle.peripheral_helpers.proofs.send_encryption_keys.Statement.{statement}
+use Rattle.peripheral_helpers.proofs.send_encryption_keys.Tie as tie
+
+returns : tie.Need-returns
+unfolding sendEncryptionKey dataOf
+returns c = rw (← c .before .before .encryption-key .ensures, c .before .if1 .taken) (c .send-kept-keys .ensures)
+
+returns-2 : tie.Need-returns-2
+unfolding sendEncryptionKey dataOf
+returns-2 c = rw (← c .before .encryption-key .ensures, c .if1 .left)
+
+pub send-encryption-keys-spec : {M : Type 1} → statement M
+send-encryption-keys-spec =
+    tie.close
+    (tie.spec
+    (λ c κs. search needs)
+    (λ c κs. search needs)
+    returns
+    returns-2)
