@@ -109,6 +109,18 @@ pub enum BondedEncryptionAnswer {
     Stop(Stop),
 }
 
+impl VerdictAnswer {
+    // Why there is no answer; Wanted where there is one.
+    pub fn stop(self) -> Stop
+        ensures { λ r. ⌜ r ≡ stopOf (verdictAnswer self) ⌝ }
+    {
+        match self {
+            VerdictAnswer::Verdict(_) => Stop::Wanted,
+            VerdictAnswer::Stop(stop) => stop,
+        }
+    }
+}
+
 impl FlagAnswer {
     // Why there is no answer; Wanted where there is one.
     pub fn stop(self) -> Stop
@@ -129,6 +141,18 @@ impl IrkAnswer {
         match self {
             IrkAnswer::Irk(_) => Stop::Wanted,
             IrkAnswer::Stop(stop) => stop,
+        }
+    }
+}
+
+impl AddressAnswer {
+    // Why there is no answer; Wanted where there is one.
+    pub fn stop(self) -> Stop
+        ensures { λ r. ⌜ r ≡ stopOf (addressAnswer self) ⌝ }
+    {
+        match self {
+            AddressAnswer::Address(_) => Stop::Wanted,
+            AddressAnswer::Stop(stop) => stop,
         }
     }
 }
@@ -189,6 +213,30 @@ impl RandAnswer {
         match self {
             RandAnswer::Rand(_) => Stop::Wanted,
             RandAnswer::Stop(stop) => stop,
+        }
+    }
+}
+
+impl EncryptionAnswer {
+    // Why there is no answer; Wanted where there is one.
+    pub fn stop(self) -> Stop
+        ensures { λ r. ⌜ r ≡ stopOf (encryptionAnswer self) ⌝ }
+    {
+        match self {
+            EncryptionAnswer::Encryption(_) => Stop::Wanted,
+            EncryptionAnswer::Stop(stop) => stop,
+        }
+    }
+}
+
+impl BondedEncryptionAnswer {
+    // Why there is no answer; Wanted where there is one.
+    pub fn stop(self) -> Stop
+        ensures { λ r. ⌜ r ≡ stopOf (bondedAnswer self) ⌝ }
+    {
+        match self {
+            BondedEncryptionAnswer::BondedEncryption(_) => Stop::Wanted,
+            BondedEncryptionAnswer::Stop(stop) => stop,
         }
     }
 }

@@ -224,25 +224,24 @@ fn tell(trace: Trace, answers: &[u8], call: Call) -> Sent
 {
     let at = trace.read;
     let pushed = trace.push(call);
-    match read_verdict(answers, at, call.kind()) {
-        VerdictAnswer::Verdict(verdict) => {
-            let after = behind(pushed, answers, at, 1);
-            if verdict == 0 {
-                return Sent {
-                    trace: after,
-                    answer: Delivered::Yes,
-                };
-            }
-            let error = Error::from_verdict(verdict);
-            Sent {
-                trace: after,
-                answer: Delivered::Not(Halt::Failed(error)),
-            }
-        }
-        VerdictAnswer::Stop(stop) => Sent {
+    let answer = read_verdict(answers, at, call.kind());
+    let VerdictAnswer::Verdict(verdict) = answer else {
+        return Sent {
             trace: pushed,
-            answer: Delivered::Not(Halt::Stop(stop)),
-        },
+            answer: Delivered::Not(Halt::Stop(answer.stop())),
+        };
+    };
+    let after = behind(pushed, answers, at, 1);
+    if verdict == 0 {
+        return Sent {
+            trace: after,
+            answer: Delivered::Yes,
+        };
+    }
+    let error = Error::from_verdict(verdict);
+    Sent {
+        trace: after,
+        answer: Delivered::Not(Halt::Failed(error)),
     }
 }
 
@@ -284,24 +283,27 @@ pub fn try_enable_bonded_encryption(trace: Trace, answers: &[u8]) -> AskedOption
 {
     let at = trace.read;
     let pushed = trace.push(Call::EnableBondedEncryption);
-    match read_bonded_encryption(answers, at) {
-        BondedEncryptionAnswer::BondedEncryption(result) => {
-            let after = behind(pushed, answers, at, 53);
-            match result {
-                OptionBondResult::Ok(value) => AskedOptionBond {
-                    trace: after,
-                    answer: TakenOptionBond::Ok(value),
-                },
-                OptionBondResult::Err(error) => AskedOptionBond {
-                    trace: after,
-                    answer: TakenOptionBond::Not(Halt::Failed(error)),
-                },
-            }
-        }
-        BondedEncryptionAnswer::Stop(stop) => AskedOptionBond {
+    let answer = read_bonded_encryption(answers, at);
+    let BondedEncryptionAnswer::BondedEncryption(result) = answer else {
+        return AskedOptionBond {
             trace: pushed,
-            answer: TakenOptionBond::Not(Halt::Stop(stop)),
-        },
+            answer: TakenOptionBond::Not(Halt::Stop(answer.stop())),
+        };
+    };
+    let after = behind(pushed, answers, at, 53);
+    match result {
+        OptionBondResult::Ok(value) => {
+            return AskedOptionBond {
+                trace: after,
+                answer: TakenOptionBond::Ok(value),
+            };
+        }
+        OptionBondResult::Err(error) => {
+            return AskedOptionBond {
+                trace: after,
+                answer: TakenOptionBond::Not(Halt::Failed(error)),
+            };
+        }
     }
 }
 
@@ -321,24 +323,27 @@ pub fn try_enable_encryption(
         security_level,
         encryption_key_len,
     });
-    match read_encryption(answers, at) {
-        EncryptionAnswer::Encryption(result) => {
-            let after = behind(pushed, answers, at, 52);
-            match result {
-                BondResult::Ok(value) => AskedBond {
-                    trace: after,
-                    answer: TakenBond::Ok(value),
-                },
-                BondResult::Err(error) => AskedBond {
-                    trace: after,
-                    answer: TakenBond::Not(Halt::Failed(error)),
-                },
-            }
-        }
-        EncryptionAnswer::Stop(stop) => AskedBond {
+    let answer = read_encryption(answers, at);
+    let EncryptionAnswer::Encryption(result) = answer else {
+        return AskedBond {
             trace: pushed,
-            answer: TakenBond::Not(Halt::Stop(stop)),
-        },
+            answer: TakenBond::Not(Halt::Stop(answer.stop())),
+        };
+    };
+    let after = behind(pushed, answers, at, 52);
+    match result {
+        BondResult::Ok(value) => {
+            return AskedBond {
+                trace: after,
+                answer: TakenBond::Ok(value),
+            };
+        }
+        BondResult::Err(error) => {
+            return AskedBond {
+                trace: after,
+                answer: TakenBond::Not(Halt::Failed(error)),
+            };
+        }
     }
 }
 
@@ -394,24 +399,27 @@ pub fn local_identity_address(trace: Trace, answers: &[u8]) -> AskedAddress
 {
     let at = trace.read;
     let pushed = trace.push(Call::Ask(Question::LocalIdentityAddress));
-    match read_identity_address(answers, at) {
-        AddressAnswer::Address(result) => {
-            let after = behind(pushed, answers, at, 8);
-            match result {
-                AddressResult::Ok(value) => AskedAddress {
-                    trace: after,
-                    answer: TakenAddress::Ok(value),
-                },
-                AddressResult::Err(error) => AskedAddress {
-                    trace: after,
-                    answer: TakenAddress::Not(Halt::Failed(error)),
-                },
-            }
-        }
-        AddressAnswer::Stop(stop) => AskedAddress {
+    let answer = read_identity_address(answers, at);
+    let AddressAnswer::Address(result) = answer else {
+        return AskedAddress {
             trace: pushed,
-            answer: TakenAddress::Not(Halt::Stop(stop)),
-        },
+            answer: TakenAddress::Not(Halt::Stop(answer.stop())),
+        };
+    };
+    let after = behind(pushed, answers, at, 8);
+    match result {
+        AddressResult::Ok(value) => {
+            return AskedAddress {
+                trace: after,
+                answer: TakenAddress::Ok(value),
+            };
+        }
+        AddressResult::Err(error) => {
+            return AskedAddress {
+                trace: after,
+                answer: TakenAddress::Not(Halt::Failed(error)),
+            };
+        }
     }
 }
 
