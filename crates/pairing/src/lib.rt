@@ -53,8 +53,10 @@ fn handle_input(
     ensures { λ r. ⌜ r ≡ finishedOf machine (run (now (answers .entry)) (handleInput role machine input (now (payload .entry))) noTrace) ⌝ }
 {
     match role {
-        Role::Central => legacy_central::handle_input(answers, machine, input, payload),
-        Role::Peripheral => legacy_peripheral::handle_input(answers, machine, input, payload),
+        Role::Central => return legacy_central::handle_input(answers, machine, input, payload),
+        Role::Peripheral => {
+            return legacy_peripheral::handle_input(answers, machine, input, payload);
+        }
     }
 }
 
@@ -71,24 +73,24 @@ fn report(finished: Finished, current: Machine, list: &mut [u8]) -> Stepped
         Finish::Ended => {
             let next = finished.machine;
             trace.write(list);
-            Stepped {
+            return Stepped {
                 outcome: Outcome::Ended,
                 machine: next,
                 read,
                 written,
-            }
+            };
         }
         Finish::Stop(stop) => match stop {
             Stop::Wanted => {
                 trace.write(list);
-                Stepped {
+                return Stepped {
                     outcome: Outcome::Wants,
                     machine: current,
                     read,
                     written,
-                }
+                };
             }
-            Stop::Refused => refused(current, 3),
+            Stop::Refused => return refused(current, 3),
         },
     }
 }

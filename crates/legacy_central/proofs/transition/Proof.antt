@@ -99,37 +99,37 @@ transition-spec =
     (tie.spec
     (λ c. search needs)
     (λ c κs. search needs)
-    (λ c. search needs)
-    (λ c κs. search needs)
-    (λ c. search needs)
-    (λ c κs. search needs)
-    (λ c. search needs)
-    (λ c κs. search needs)
-    (λ c. search needs)
-    (λ c κs. search needs)
-    (λ c. search needs)
-    (λ c κs. search needs)
-    (λ c. search needs)
-    (λ c κs. search needs)
-    (λ c. search needs)
-    (λ c κs. search needs)
-    (λ c. search needs)
-    (λ c κs. search needs)
-    (λ c. search needs)
-    (λ c κs. search needs)
-    (λ c. search needs)
-    (λ c κs. search needs)
-    (λ c. search needs)
-    (λ c κs. search needs)
     returns
+    (λ c. search needs)
+    (λ c κs. search needs)
     returns-2
+    (λ c. search needs)
+    (λ c κs. search needs)
     returns-3
+    (λ c. search needs)
+    (λ c κs. search needs)
     returns-4
+    (λ c. search needs)
+    (λ c κs. search needs)
     returns-5
+    (λ c. search needs)
+    (λ c κs. search needs)
     returns-6
+    (λ c. search needs)
+    (λ c κs. search needs)
     returns-7
+    (λ c. search needs)
+    (λ c κs. search needs)
     returns-8
+    (λ c. search needs)
+    (λ c κs. search needs)
     returns-9
+    (λ c. search needs)
+    (λ c κs. search needs)
     returns-10
+    (λ c. search needs)
+    (λ c κs. search needs)
     returns-11
+    (λ c. search needs)
+    (λ c κs. search needs)
     returns-12)

@@ -19,7 +19,7 @@ returns c =
 returns-2 : tie.Need-returns-2
 returns-2 c =
     let a = c .before .before .before .before .before .before .before .before .before .before .before .args in
-    c .begin-confirm .ensures
+    ran-of _ _ _ (c .begin-confirm .ensures)
     ∙ ap (λ (h : Handler Machine). run (now (a .answers)) h (a .trace)) (on-oob-data (a .input) _ _ (sym (ap oobDataFound (c .before .before .random .given .1)) ∙ c .before .before .before .before .oob-data-received .ensures))
 
 pub waiting-oob-data-spec : {M : Type 1} → statement M

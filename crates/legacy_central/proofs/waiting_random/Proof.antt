@@ -12,7 +12,7 @@ use Rattle.legacy_central.proofs.waiting_random.Tie as tie
 returns : tie.Need-returns
 returns c =
     let a = c .before .before .before .before .before .before .before .args in
-    c .handle-pairing-random .ensures
+    ran-of _ _ _ (c .handle-pairing-random .ensures)
     ∙ ap (λ (h : Handler Machine). run (now (a .answers)) h (a .trace)) (on-command _ (a .input) _ _ (sym (c .before .if1 .taken) ∙ c .before .before .is-command .ensures))
 
 returns-2 : tie.Need-returns-2

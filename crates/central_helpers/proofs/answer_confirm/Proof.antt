@@ -1,11 +1,12 @@
--- `legacy_central::answer_confirm` meets its contract. Assumes nothing.
+-- `central_helpers::answer_confirm` meets its contract. Assumes nothing.
 use Rattle.ops.proofs.Laws.{and-halt, run-bind}
+use Rattle.handlers.proofs.Outcoming.{outcome-halted}
 use borrow.Author.Needs.{needs}
-use Rattle.legacy_central.proofs.answer_confirm.Statement.{statement}
-use Rattle.legacy_central.proofs.answer_confirm.Tie as tie
+use Rattle.central_helpers.proofs.answer_confirm.Statement.{statement}
+use Rattle.central_helpers.proofs.answer_confirm.Tie as tie
 
 returns : tie.Need-returns
-returns c = rw (c .not .ensures, c .before .halt .ensures, run-bind, ← c .before .before .before .before .before .send-mrand .ensures (c .before .before .before .before .before .before .before .args .pairing-data), c .before .before .enum-told2 .given .1, and-halt)
+returns c = rw (c .not .ensures, c .before .halt .ensures, run-bind, ← c .before .before .before .before .before .send-mrand .ensures (c .before .before .before .before .before .before .before .args .pairing-data), c .before .before .enum-told2 .given .1, and-halt, outcome-halted)
 
 returns-2 : tie.Need-returns-2
 returns-2 c = rw (c .next .ensures, run-bind, ← c .before .before .before .before .send-mrand .ensures (c .before .before .before .before .before .before .args .pairing-data), c .before .enum-told .given .1)

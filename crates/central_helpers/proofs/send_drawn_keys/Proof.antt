@@ -1,9 +1,9 @@
--- `legacy_central::send_drawn_keys` meets its contract. Assumes nothing.
+-- `central_helpers::send_drawn_keys` meets its contract. Assumes nothing.
 use Rattle.ops.proofs.Laws.{and-halt}
 use Rattle.handlers.proofs.Keying.{keys-sent}
 use borrow.Author.Needs.{needs}
-use Rattle.legacy_central.proofs.send_drawn_keys.Statement.{statement}
-use Rattle.legacy_central.proofs.send_drawn_keys.Tie as tie
+use Rattle.central_helpers.proofs.send_drawn_keys.Statement.{statement}
+use Rattle.central_helpers.proofs.send_drawn_keys.Tie as tie
 
 returns : tie.Need-returns
 returns c = rw (c .stop .ensures, keys-sent, ← c .before .before .before .before .draw-keys .ensures, c .before .enum-told .given .1)

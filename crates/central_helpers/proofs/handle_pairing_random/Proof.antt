@@ -1,9 +1,8 @@
--- `legacy_central::handle_pairing_random` meets its contract. Assumes nothing.
-use Rattle.handlers.proofs.Outcoming.{ran-of}
+-- `central_helpers::handle_pairing_random` meets its contract. Assumes nothing.
 use Rattle.protocol.specs.LegacyCentral.{«handle_pairing_random»}
 use borrow.Author.Needs.{needs}
-use Rattle.legacy_central.proofs.handle_pairing_random.Statement.{statement}
-use Rattle.legacy_central.proofs.handle_pairing_random.Tie as tie
+use Rattle.central_helpers.proofs.handle_pairing_random.Statement.{statement}
+use Rattle.central_helpers.proofs.handle_pairing_random.Tie as tie
 
 returns : tie.Need-returns
 unfolding «handle_pairing_random»
@@ -11,7 +10,7 @@ returns c = rw (c .failed .ensures, ← c .before .before .before .read-payload-
 
 returns-2 : tie.Need-returns-2
 unfolding «handle_pairing_random»
-returns-2 c = rw (← c .before .before .before .before .before .before .before .before .before .read-payload-word .ensures, c .before .before .before .before .before .before .before .word .given .1, ← c .before .before .before .before .confirm-value .ensures, ← c .before .before .before .equals .ensures, c .before .before .if1 .taken, ← c .before .s1 .ensures) (ran-of _ _ _ (c .enable-encryption .ensures))
+returns-2 c = rw (← c .before .before .before .before .before .before .before .before .before .read-payload-word .ensures, c .before .before .before .before .before .before .before .word .given .1, ← c .before .before .before .before .confirm-value .ensures, ← c .before .before .before .equals .ensures, c .before .before .if1 .taken, ← c .before .s1 .ensures) (c .enable-encryption .ensures)
 
 returns-3 : tie.Need-returns-3
 unfolding «handle_pairing_random»

@@ -1,8 +1,8 @@
--- `legacy_central::send_encryption_keys` meets its contract. Assumes nothing.
+-- `central_helpers::send_encryption_keys` meets its contract. Assumes nothing.
 use Rattle.protocol.specs.Handlers.{sendEncryptionKey}
 use borrow.Author.Needs.{needs}
-use Rattle.legacy_central.proofs.send_encryption_keys.Statement.{statement}
-use Rattle.legacy_central.proofs.send_encryption_keys.Tie as tie
+use Rattle.central_helpers.proofs.send_encryption_keys.Statement.{statement}
+use Rattle.central_helpers.proofs.send_encryption_keys.Tie as tie
 
 returns : tie.Need-returns
 unfolding sendEncryptionKey

@@ -1,8 +1,8 @@
--- `legacy_central::confirm_value` meets its contract. Assumes nothing.
+-- `central_helpers::confirm_value` meets its contract. Assumes nothing.
 use Rattle.protocol.specs.LegacyCentral.{confirmValue}
 use borrow.Author.Needs.{needs}
-use Rattle.legacy_central.proofs.confirm_value.Statement.{statement}
-use Rattle.legacy_central.proofs.confirm_value.Tie as tie
+use Rattle.central_helpers.proofs.confirm_value.Statement.{statement}
+use Rattle.central_helpers.proofs.confirm_value.Tie as tie
 
 returns : tie.Need-returns
 unfolding confirmValue

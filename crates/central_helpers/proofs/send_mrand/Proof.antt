@@ -1,10 +1,10 @@
--- `legacy_central::send_mrand` meets its contract. Assumes nothing.
+-- `central_helpers::send_mrand` meets its contract. Assumes nothing.
 use denote.Ref.{now}
 use Rattle.handlers.proofs.Outcoming.{sending}
 use Rattle.protocol.specs.LegacyCentral.{«send_mrand»}
 use borrow.Author.Needs.{needs}
-use Rattle.legacy_central.proofs.send_mrand.Statement.{statement}
-use Rattle.legacy_central.proofs.send_mrand.Tie as tie
+use Rattle.central_helpers.proofs.send_mrand.Statement.{statement}
+use Rattle.central_helpers.proofs.send_mrand.Tie as tie
 
 returns : tie.Need-returns
 unfolding «send_mrand»
