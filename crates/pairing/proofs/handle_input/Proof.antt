@@ -15,7 +15,7 @@ handle-input-spec =
     (tie.spec
     (λ c. search needs)
     (λ c κs. search needs)
+    returns
     (λ c. search needs)
     (λ c κs. search needs)
-    returns
     returns-2)
