@@ -3,7 +3,6 @@ use Prim.Native.Nat.{ℕ}
 use mathlib.Core.List.{List}
 use Rattle.host.specs.declared.call.ConnectionEvent.the-variants as notice
 use Rattle.host.specs.declared.call.Draw.the-variants as draw
-use Rattle.host.specs.declared.call.Trace.{Trace}
 use Rattle.machine.specs.declared.Machine.{Machine}
 use Rattle.machine.specs.declared.PairingData.{PairingData}
 use Rattle.protocol.specs.Handlers.{Try, Handler, _>>=_, _>>_, sendEvent, drawn, passKeyTk}

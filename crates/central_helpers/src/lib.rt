@@ -170,10 +170,7 @@ pub fn begin_method(
         PairingMethod::OutOfBand => {
             return request_oob_data(trace, answers, preq, pres, pairing_data);
         }
-        PairingMethod::PassKeyEntry {
-            central,
-            peripheral: _,
-        } => match central {
+        PairingMethod::PassKeyEntry { central, .. } => match central {
             PassKeyEntryAction::Display => {
                 return display_pass_key(trace, answers, preq, pres, pairing_data);
             }

@@ -8,10 +8,9 @@ use Rattle.host.specs.declared.call.Packet.the-variants as packet
 use Rattle.host.specs.declared.call.Trace.{Trace}
 use Rattle.machine.specs.declared.PairingData.{PairingData}
 use Rattle.protocol.specs.Handlers.{onTry, give, _>>_, sendPacket, sendEncryptionKey}
-use Rattle.ops.specs.Run.{Ran, andThen, run}
+use Rattle.ops.specs.Run.{andThen, run}
 use Rattle.ops.proofs.Laws.{run-bind, and-same}
 use Rattle.handlers.specs.Keys.{drawKeys, encryptionPackets}
-use Rattle.handlers.specs.declared.keys.EncryptionKeys.{EncryptionKeys}
 use Rattle.handlers.proofs.Outcoming.{run-assoc}
 
 pub keys-sent :

@@ -13,8 +13,6 @@ use Rattle.machine.specs.declared.Input.{Input}
 use Rattle.machine.specs.declared.Input.the-variants as input
 use Rattle.machine.specs.declared.Machine.{Machine}
 use Rattle.machine.specs.declared.PairingData.{PairingData}
-use Rattle.protocol.specs.Program.{bind}
-use Rattle.protocol.specs.Ops.{Program}
 use Rattle.protocol.specs.Handlers.{Try, ok, err, onTry, Handler, _>>=_, onDelivery, onCommand, onLinkEncrypted, onPassKeyInput, onPassKeyCancel, onOobData}
 use Rattle.ops.specs.Run.{Ran, ended, stopped, andThen, run}
 use Rattle.ops.specs.Asked.{ranDelivered}

@@ -2,7 +2,6 @@
 use Prim.Native.Nat.{ℕ}
 use mathlib.Core.List.{List}
 use mathlib.Core.Path.{_≡_}
-use Rattle.bond.specs.declared.Error.{Error}
 use Rattle.host.specs.declared.call.Trace.{Trace}
 use Rattle.answer.specs.declared.Stop.{Stop}
 use Rattle.machine.specs.Machine.{keptBy}
@@ -20,7 +19,6 @@ use Rattle.ops.specs.declared.Halt.the-variants as halt
 use Rattle.ops.specs.declared.Sent.{Sent}
 use Rattle.handlers.specs.declared.outcome.End.{End}
 use Rattle.handlers.specs.declared.outcome.End.the-variants as end
-use Rattle.handlers.specs.declared.outcome.Finish.{Finish}
 use Rattle.handlers.specs.declared.outcome.Finish.the-variants as finish
 use Rattle.handlers.specs.declared.outcome.Finished.{Finished}
 use Rattle.handlers.specs.declared.outcome.Outcome.{Outcome}

@@ -1,7 +1,5 @@
 // Payloads that both roles read.
-ghost use Prim.Native.Nat.{_≤_};
 ghost use mathlib.Core.Path.{_≡_};
-ghost use lib.ListN.{length};
 ghost use Rattle.types.specs.Types.{featureOctets};
 ghost use Rattle.types.specs.declared.types.Command.the-variants as command;
 ghost use Rattle.protocol.specs.Handlers.{wordIn, featuresIn, identificationIn, addressIn, reasonIn, commandOctets};

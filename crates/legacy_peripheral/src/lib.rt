@@ -1,6 +1,7 @@
-// legacy_peripheral.rs: the responder's machine. Each function of the Rust has one of its name here; a state goes in by
-// value, and what it becomes comes back beside the calls made. What legacy_central.rs has in the same words stands in
-// the crate handlers: `enter`, `store_confirm_bytes`, `handle_encryption_information`, `handle_identity_information`.
+// legacy_peripheral.rs: the responder's machine. Each function of the Rust has one of its name here or in the crate
+// peripheral_helpers; a state goes in by value, and what it becomes comes back beside the calls made. What
+// legacy_central.rs has in the same words stands in the crate handlers: `enter`, `store_confirm_bytes`,
+// `handle_encryption_information`, `handle_identity_information`.
 ghost use mathlib.Core.Path.{_≡_};
 ghost use Rattle.host.specs.Calls.{noTrace};
 ghost use Rattle.machine.specs.declared.Phase.the-variants as phase;
@@ -82,60 +83,31 @@ fn transition(
 {
     let state = current.phase;
     match state {
-        Phase::WaitingPairingRequest => return waiting_request(
-            trace,
-            answers,
-            current,
-            input,
-            payload,
-        ),
-        Phase::WaitingPassKeyInput { confirm_bytes } => return waiting_pass_key(
-            trace,
-            answers,
-            current,
-            confirm_bytes,
-            input,
-            payload,
-        ),
+        Phase::WaitingPairingRequest => {
+            return waiting_request(trace, answers, current, input, payload);
+        }
+        Phase::WaitingPassKeyInput { confirm_bytes } => {
+            return waiting_pass_key(trace, answers, current, confirm_bytes, input, payload);
+        }
         Phase::WaitingOobData => return waiting_oob_data(trace, current, input, payload),
-        Phase::WaitingPairingConfirm => return waiting_confirm(
-            trace,
-            answers,
-            current,
-            input,
-            payload,
-        ),
-        Phase::WaitingPairingRandom { peer_confirm } => return waiting_random(
-            trace,
-            answers,
-            current,
-            peer_confirm,
-            input,
-            payload,
-        ),
-        Phase::WaitingLinkEncrypted => return waiting_encrypted(
-            trace,
-            answers,
-            current,
-            input,
-            payload,
-        ),
-        Phase::WaitingIdentitityInformation => return waiting_identity(
-            trace,
-            current,
-            input,
-            payload,
-        ),
-        Phase::WaitingIdentitityAddressInformation => return waiting_address(
-            trace,
-            current,
-            input,
-            payload,
-        ),
-        Phase::ReceivingKeys {
-            phase,
-            received_ltk: _,
-        } => return receiving_keys(trace, current, phase, input, payload),
+        Phase::WaitingPairingConfirm => {
+            return waiting_confirm(trace, answers, current, input, payload);
+        }
+        Phase::WaitingPairingRandom { peer_confirm } => {
+            return waiting_random(trace, answers, current, peer_confirm, input, payload);
+        }
+        Phase::WaitingLinkEncrypted => {
+            return waiting_encrypted(trace, answers, current, input, payload);
+        }
+        Phase::WaitingIdentitityInformation => {
+            return waiting_identity(trace, current, input, payload);
+        }
+        Phase::WaitingIdentitityAddressInformation => {
+            return waiting_address(trace, current, input, payload);
+        }
+        Phase::ReceivingKeys { phase, .. } => {
+            return receiving_keys(trace, current, phase, input, payload);
+        }
         Phase::Success => return other_input(trace, current, input, payload),
         Phase::Error(_) => return other_input(trace, current, input, payload),
         Phase::WaitingPairingResponse => return other_input(trace, current, input, payload),

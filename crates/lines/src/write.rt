@@ -4,7 +4,6 @@ ghost use mathlib.Core.List.{_++_};
 ghost use Prim.Native.Nat.{_+_, _*_, _≤_, _<_};
 ghost use lib.ListN.{length};
 ghost use Rattle.octets.specs.Octets.{writeAt};
-ghost use Rattle.lines.specs.Text.{space};
 ghost use Rattle.lines.specs.AnswerLines.{decimal, digitText, digitsText, octetsText, outcomeText, headText, restText, answerText, malformedText, TextWritten, textIn, PlacesOf};
 use machine::Machine;
 use octets::write;

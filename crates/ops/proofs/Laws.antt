@@ -11,8 +11,8 @@ use native.Mathlib.Omega.{arith}
 use Rattle.answer.specs.Answers.{Found, found, stopped as nothing, onFound, bodyAt, verdictAt, flagAt}
 use Rattle.answer.specs.declared.Stop.{Stop}
 use Rattle.answer.specs.declared.Stop.the-variants.{Wanted, Refused}
-use Rattle.protocol.specs.Program.{ret, ask, bind, Taken}
-use Rattle.protocol.specs.Ops.{Delivery, Program, Reply, replySort, replyFound, taken, answerSize}
+use Rattle.protocol.specs.Program.{ret, ask, bind}
+use Rattle.protocol.specs.Ops.{Program, Reply, replySort, replyFound, taken, answerSize}
 use Rattle.protocol.proofs.Replies.{reads, Says, body-says}
 use Rattle.ops.specs.Run.{Ran, ended, stopped, andThen, onTaken, run, answerTo}
 use Rattle.ops.specs.Asked.{onHalt, ranDelivered, attemptedOf}

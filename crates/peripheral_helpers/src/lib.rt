@@ -383,31 +383,16 @@ fn begin_method(
 {
     let zero = Word128 { low: 0, high: 0 };
     match method {
-        PairingMethod::OutOfBand => return request_oob_data(
-            trace,
-            answers,
-            preq,
-            pres,
-            pairing_data,
-        ),
-        PairingMethod::PassKeyEntry {
-            central: _,
-            peripheral,
-        } => match peripheral {
-            PassKeyEntryAction::Display => return display_pass_key(
-                trace,
-                answers,
-                preq,
-                pres,
-                pairing_data,
-            ),
-            PassKeyEntryAction::Input => return request_pass_key(
-                trace,
-                answers,
-                preq,
-                pres,
-                pairing_data,
-            ),
+        PairingMethod::OutOfBand => {
+            return request_oob_data(trace, answers, preq, pres, pairing_data);
+        }
+        PairingMethod::PassKeyEntry { peripheral, .. } => match peripheral {
+            PassKeyEntryAction::Display => {
+                return display_pass_key(trace, answers, preq, pres, pairing_data);
+            }
+            PassKeyEntryAction::Input => {
+                return request_pass_key(trace, answers, preq, pres, pairing_data);
+            }
         },
         PairingMethod::JustWorks => {
             let confirm_data = confirm_phase_data(zero, preq, pres);

@@ -1,6 +1,5 @@
 -- `step_lines::answer_all` meets its contract. Assumes nothing.
 use mathlib.Core.Path.{_≡_, refl}
-use native.Mathlib.Omega.{arith}
 use lib.ListN.{length}
 use borrow.Author.Needs.{needs}
 use Rattle.step_lines.proofs.answer_all.Statement.{statement}

@@ -1,5 +1,5 @@
 -- `handlers::payload::read_features` meets its contract. Assumes nothing.
-use mathlib.Core.Path.{refl, ap}
+use mathlib.Core.Path.{refl}
 use borrow.Author.Tests.{eq-eqb, ne-eqb}
 use Rattle.protocol.specs.Handlers.{featuresIn}
 use Rattle.handlers.proofs.Features.{not-decoded, six}

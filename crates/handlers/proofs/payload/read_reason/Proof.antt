@@ -1,8 +1,6 @@
 -- `handlers::payload::read_reason` meets its contract. Assumes nothing.
-use borrow.Author.Tests.{eq-eqb, ne-eqb}
 use mathlib.Core.Path.{sym}
 use Rattle.handlers.proofs.Reasons.{no-reason, first-reason}
-use Rattle.protocol.specs.Handlers.{reasonIn}
 use borrow.Author.Needs.{needs}
 use Rattle.handlers.proofs.payload.read_reason.Statement.{statement}
 use Rattle.handlers.proofs.payload.read_reason.Tie as tie

@@ -1,7 +1,6 @@
 -- `handlers::phases::enter` meets its contract. Assumes nothing.
 use mathlib.Core.Path.{_∙_, ap, sym}
 use denote.Ref.{now}
-use Rattle.machine.specs.declared.Machine.{Machine}
 use Rattle.machine.specs.declared.Phase.{Phase}
 use Rattle.protocol.specs.Handlers.{enter, enterPhase}
 use Rattle.ops.specs.Run.{run}

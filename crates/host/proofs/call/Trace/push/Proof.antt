@@ -1,10 +1,7 @@
 -- `host::call::Trace::push` meets its contract. Assumes nothing.
 use mathlib.Core.Path.{_≡_, sym, _∙_}
-use mathlib.Core.Bool.{true, false}
-use Prim.Native.Nat.{_+_, _≤_}
 use lib.ListN.{length, length-map}
 use native.Mathlib.Omega.{arith}
-use Rattle.octets.specs.Octets.{fitsAt}
 use Rattle.octets.proofs.Parts.{fitting}
 use Rattle.host.specs.Calls.{callOctets, pushOf, longest}
 use borrow.Author.Needs.{needs}

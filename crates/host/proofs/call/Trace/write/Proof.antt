@@ -1,10 +1,7 @@
 -- `host::call::Trace::write` meets its contract. Assumes nothing.
-use mathlib.Core.Path.{_≡_, sym}
-use lib.ListN.{length, length-map}
+use mathlib.Core.Path.{sym}
 use lib.Seq.{length-take-le}
-use native.Mathlib.Nat.{min-le-right}
 use native.Mathlib.Omega.{arith}
-use Rattle.host.specs.Calls.{listed}
 use Rattle.host.proofs.Writing.{listed-first, listed-within}
 use borrow.Author.Needs.{needs}
 use Rattle.host.proofs.call.Trace.write.Statement.{statement}
