@@ -1,7 +1,8 @@
-// Answers step lines from standard input, to its end: a shell over `lines` and `pairing`. What it does with the lines
+// Answers step lines from standard input, to its end: a shell over `lines` and the entry by reference. What it does with the lines
 // is proved there; that it cuts its input at line feeds, and answers a last line without one as malformed, is tested.
 ghost use Prim.Native.Nat.{_≤_, _<_};
 ghost use lib.ListN.{length};
+use entry::step_local;
 use libc::STDIN_FILENO;
 use libc::STDOUT_FILENO;
 use lines::ReadLine;
@@ -10,7 +11,6 @@ use lines::Wrote;
 use lines::read_line;
 use lines::write_answer;
 use lines::write_malformed;
-use pairing::step;
 
 fn at_most(n: usize, most: usize) -> usize
     ensures { λ r. ⌜ r ≤ most ⌝ }
@@ -42,7 +42,7 @@ fn answer_step(
     let machine = read.machine;
     let input = read.input;
     let role = read.role;
-    let stepped = step(role, machine, input, payload, answers, list);
+    let stepped = step_local(machine, role, input, payload, answers, list);
     write_answer(stepped, list, out)
 }
 

@@ -1,0 +1,3 @@
+pub mod InPlace
+pub mod Keeps
+pub mod OnLocal
