@@ -1,0 +1,27 @@
+-- `octet_steps::pass_key_input` meets its contract. Assumes nothing.
+use lib.Seq.{take-all}
+use native.Mathlib.Omega.{arith}
+use Prim.Native.Nat.{_≤_}
+use lib.ListN.{length}
+use denote.Ref.{now}
+use borrow.Author.Needs.{needs}
+use borrow.Author.Tests.{eq-eqb, ne-eqb}
+use Rattle.octet_steps.proofs.pass_key_input.Statement.{statement}
+use Rattle.octet_steps.proofs.pass_key_input.Tie as tie
+
+returns : tie.Need-returns
+returns c =
+    let l = now (c .before .before .before .args .payload) in
+    let all : length l ≤ 4 = omega (arith, c .before .if1 .taken) in
+    rw (eq-eqb _ _ (c .before .if1 .taken), c .read-u32 .ensures, take-all 4 l all)
+
+returns-2 : tie.Need-returns-2
+returns-2 c = rw (ne-eqb _ _ (c .if1 .left))
+
+pub pass-key-input-spec : {M : Type 1} → statement M
+pass-key-input-spec =
+    tie.close
+    (tie.spec
+    (λ c κs. search needs)
+    returns
+    returns-2)
