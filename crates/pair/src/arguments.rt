@@ -33,7 +33,7 @@ fn is_late(i: usize) -> bool {
 }
 
 // The place of --late among the arguments; 0 where it is not there.
-pub fn late_place() -> usize {
+pub(crate) fn late_place() -> usize {
     if is_late(1) {
         return 1;
     }
@@ -254,7 +254,7 @@ fn read_scene(name: &[u8], records: &mut [u8]) -> bool {
 }
 
 // Reads the feature records that the arguments name, the terminal's first, or says what is wrong.
-pub fn read_arguments(late: usize, records: &mut [u8]) -> bool {
+pub(crate) fn read_arguments(late: usize, records: &mut [u8]) -> bool {
     let mut first = [0u8; WORD];
     let mut second = [0u8; WORD];
     let n = os::arg(first_place(late), &mut first);

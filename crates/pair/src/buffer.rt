@@ -2,7 +2,7 @@
 // written.
 ghost use Prim.Native.Nat.{_≤_};
 
-pub fn at_most(n: usize, most: usize) -> usize
+pub(crate) fn at_most(n: usize, most: usize) -> usize
     ensures { λ r. ⌜ r ≤ most ⌝ }
 {
     if n < most {
@@ -12,7 +12,7 @@ pub fn at_most(n: usize, most: usize) -> usize
 }
 
 // The octet at a place.
-pub fn octet(s: &[u8], place: usize) -> u8 {
+pub(crate) fn octet(s: &[u8], place: usize) -> u8 {
     if place < s.len() {
         return s[place];
     }
@@ -20,7 +20,7 @@ pub fn octet(s: &[u8], place: usize) -> u8 {
 }
 
 // As many octets from a place on, as far as there are any.
-pub fn part(s: &[u8], from: usize, size: usize) -> &[u8] {
+pub(crate) fn part(s: &[u8], from: usize, size: usize) -> &[u8] {
     let a = at_most(from, s.len());
     let n = at_most(size, s.len() - a);
     let e = a + n;
@@ -28,7 +28,7 @@ pub fn part(s: &[u8], from: usize, size: usize) -> &[u8] {
 }
 
 // Writes an octet, and returns the place after it.
-pub fn put(s: &mut [u8], place: usize, octet: u8) -> usize {
+pub(crate) fn put(s: &mut [u8], place: usize, octet: u8) -> usize {
     if place < s.len() {
         s[place] = octet;
         return place + 1;
@@ -37,7 +37,7 @@ pub fn put(s: &mut [u8], place: usize, octet: u8) -> usize {
 }
 
 // Writes octets one after another, and returns the place after them.
-pub fn put_all(s: &mut [u8], place: usize, octets: &[u8]) -> usize {
+pub(crate) fn put_all(s: &mut [u8], place: usize, octets: &[u8]) -> usize {
     let mut at = place;
     for i in 0..octets.len() {
         at = put(s, at, octets[i]);
@@ -46,7 +46,7 @@ pub fn put_all(s: &mut [u8], place: usize, octets: &[u8]) -> usize {
 }
 
 // Writes so many octets that are equal.
-pub fn put_same(s: &mut [u8], place: usize, octet: u8, count: usize) -> usize {
+pub(crate) fn put_same(s: &mut [u8], place: usize, octet: u8, count: usize) -> usize {
     let mut at = place;
     for i in 0..count {
         at = put(s, at, octet);
@@ -55,7 +55,7 @@ pub fn put_same(s: &mut [u8], place: usize, octet: u8, count: usize) -> usize {
 }
 
 // Writes so many octets, each one more than the one before it.
-pub fn put_counted(s: &mut [u8], place: usize, first: u8, count: usize) -> usize {
+pub(crate) fn put_counted(s: &mut [u8], place: usize, first: u8, count: usize) -> usize {
     let mut at = place;
     let mut octet = first;
     for i in 0..count {
@@ -66,7 +66,7 @@ pub fn put_counted(s: &mut [u8], place: usize, first: u8, count: usize) -> usize
 }
 
 // Whether two texts are equal.
-pub fn same(a: &[u8], b: &[u8]) -> bool {
+pub(crate) fn same(a: &[u8], b: &[u8]) -> bool {
     if a.len() != b.len() {
         return false;
     }

@@ -30,12 +30,12 @@ fn of_end(role: u8, terminal: u8, head: u8) -> u8 {
     head
 }
 
-pub fn peer(role: u8) -> u8 {
+pub(crate) fn peer(role: u8) -> u8 {
     of_end(role, HEAD, TERMINAL)
 }
 
 // An end's feature record, of both, the terminal's first.
-pub fn record(role: u8, records: &[u8]) -> &[u8] {
+pub(crate) fn record(role: u8, records: &[u8]) -> &[u8] {
     if role == TERMINAL {
         return part(records, 0, 6);
     }
@@ -43,7 +43,7 @@ pub fn record(role: u8, records: &[u8]) -> &[u8] {
 }
 
 // The kind of an end's address, then the address.
-pub fn put_address(role: u8, s: &mut [u8], place: usize) -> usize {
+pub(crate) fn put_address(role: u8, s: &mut [u8], place: usize) -> usize {
     if role == TERMINAL {
         return put_all(s, place, &[0, 0x01, 0x53, 0x00, 0x5e, 0x00, 0x00]);
     }
@@ -51,11 +51,11 @@ pub fn put_address(role: u8, s: &mut [u8], place: usize) -> usize {
 }
 
 // 204518.
-pub fn put_pass_key(s: &mut [u8], place: usize) -> usize {
+pub(crate) fn put_pass_key(s: &mut [u8], place: usize) -> usize {
     put_all(s, place, &[0xe6, 0x1e, 0x03, 0x00])
 }
 
-pub fn put_oob_data(s: &mut [u8], place: usize) -> usize {
+pub(crate) fn put_oob_data(s: &mut [u8], place: usize) -> usize {
     put_counted(s, place, 0x70, 16)
 }
 
@@ -102,7 +102,7 @@ fn put_reply(role: u8, kind: u8, records: &[u8], s: &mut [u8], place: usize) -> 
 }
 
 // Writes the answer to a call, its kind first, and returns the place after it.
-pub fn put_answer(
+pub(crate) fn put_answer(
     role: u8,
     kind: u8,
     call: &[u8],

@@ -263,7 +263,7 @@ fn begin(role: u8, records: &[u8], machine: &mut [u8]) {
 }
 
 // Plays a pairing of two feature records, the terminal's first. At the start only the request is queued, to the head.
-pub fn play(records: &[u8], late: bool) {
+pub(crate) fn play(records: &[u8], late: bool) {
     let mut terminal = [0u8; 161];
     let mut head = [0u8; 161];
     let mut to_terminal = [0u8; 256];

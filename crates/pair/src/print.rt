@@ -8,12 +8,12 @@ use types::AuthReq;
 use types::BondingFlag;
 use types::KeyDistributionFlags;
 
-pub fn say(text: &[u8]) {
+pub(crate) fn say(text: &[u8]) {
     io::write_all(STDOUT_FILENO, text);
 }
 
 // A text, and spaces up to a width.
-pub fn pad(text: &[u8], width: usize) {
+pub(crate) fn pad(text: &[u8], width: usize) {
     say(text);
     let mut i = text.len();
     while i < width {
@@ -22,7 +22,7 @@ pub fn pad(text: &[u8], width: usize) {
     }
 }
 
-pub fn number(n: u64) {
+pub(crate) fn number(n: u64) {
     io::print_decimal(STDOUT_FILENO, n);
 }
 
@@ -32,23 +32,23 @@ fn wide(x: u8) -> u64
     x as u64
 }
 
-pub fn small(n: u8) {
+pub(crate) fn small(n: u8) {
     number(wide(n));
 }
 
-pub fn hex(n: u8) {
+pub(crate) fn hex(n: u8) {
     io::print_hex(STDOUT_FILENO, wide(n), 2);
 }
 
 // Octets in hexadecimal, in their order.
-pub fn octets(s: &[u8]) {
+pub(crate) fn octets(s: &[u8]) {
     for i in 0..s.len() {
         hex(s[i]);
     }
 }
 
 // Octets that run most significant first, least significant first.
-pub fn reversed(s: &[u8]) {
+pub(crate) fn reversed(s: &[u8]) {
     let mut i = s.len();
     while 0 < i {
         i -= 1;
@@ -57,7 +57,7 @@ pub fn reversed(s: &[u8]) {
 }
 
 // The number of octets, least significant first, of which the first four count.
-pub fn value(s: &[u8]) {
+pub(crate) fn value(s: &[u8]) {
     let mut n = 0;
     let mut i = s.len();
     while 0 < i {
@@ -68,7 +68,7 @@ pub fn value(s: &[u8]) {
 }
 
 // Other people's text, with a question mark for what is no printable ASCII.
-pub fn quoted(text: &[u8]) {
+pub(crate) fn quoted(text: &[u8]) {
     say(b"'");
     for i in 0..text.len() {
         let c = text[i];
@@ -87,7 +87,7 @@ fn colon(n: u8) {
 }
 
 // Seven octets: the kind of an address and the address, least significant octet first.
-pub fn address(s: &[u8]) {
+pub(crate) fn address(s: &[u8]) {
     colon(octet(s, 6));
     colon(octet(s, 5));
     colon(octet(s, 4));
@@ -101,7 +101,7 @@ pub fn address(s: &[u8]) {
     }
 }
 
-pub fn end(role: u8) {
+pub(crate) fn end(role: u8) {
     if role == TERMINAL {
         say(b"terminal");
     } else {
@@ -109,7 +109,7 @@ pub fn end(role: u8) {
     }
 }
 
-pub fn yes_no(flag: u8) {
+pub(crate) fn yes_no(flag: u8) {
     if flag == 0 {
         say(b"no");
     } else {
@@ -155,7 +155,7 @@ fn keys(flags: KeyDistributionFlags) {
 }
 
 // A feature record of six octets.
-pub fn features(s: &[u8]) {
+pub(crate) fn features(s: &[u8]) {
     io_capabilities(octet(s, 0));
     if octet(s, 1) == 0 {
         say(b", no OOB");
@@ -171,7 +171,7 @@ pub fn features(s: &[u8]) {
     keys(KeyDistributionFlags(octet(s, 5)));
 }
 
-pub fn level(n: u8) {
+pub(crate) fn level(n: u8) {
     small(n);
     match n {
         1 => say(b" Encrypted"),
@@ -181,7 +181,7 @@ pub fn level(n: u8) {
 }
 
 // EDIV and Rand.
-pub fn identification(s: &[u8]) {
+pub(crate) fn identification(s: &[u8]) {
     say(b"EDIV ");
     value(part(s, 0, 2));
     say(b", Rand ");
@@ -198,7 +198,7 @@ fn is_zero(s: &[u8]) -> bool {
 }
 
 // A bond of 51 octets.
-pub fn bond(s: &[u8]) {
+pub(crate) fn bond(s: &[u8]) {
     say(b"LTK ");
     octets(part(s, 0, 16));
     say(b", ");
@@ -221,7 +221,7 @@ pub fn bond(s: &[u8]) {
 }
 
 // The state of a machine record, by the Rust's names.
-pub fn state(role: u8, phase: u8) {
+pub(crate) fn state(role: u8, phase: u8) {
     match phase {
         0 => {
             if role == TERMINAL {
@@ -244,7 +244,7 @@ pub fn state(role: u8, phase: u8) {
 }
 
 // The method of a machine record.
-pub fn method(n: u8) {
+pub(crate) fn method(n: u8) {
     match n {
         0 => say(b"JustWorks"),
         1 => say(b"NumericComparison"),

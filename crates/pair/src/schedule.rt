@@ -25,7 +25,7 @@ pub struct End {
     pub key_size: u8,
 }
 
-pub fn fresh_end() -> End {
+pub(crate) fn fresh_end() -> End {
     End {
         first: 0,
         past: 0,
@@ -68,7 +68,7 @@ fn has_packet(end: End) -> bool {
     end.first < end.past
 }
 
-pub fn is_nothing(given: Given) -> bool {
+pub(crate) fn is_nothing(given: Given) -> bool {
     if let Given::Nothing = given {
         return true;
     }
@@ -115,7 +115,7 @@ fn next_packet(terminal: End, head: End) -> Next {
 }
 
 // The next input, by the fixed order.
-pub fn next_input(terminal: End, head: End, late: bool) -> Next {
+pub(crate) fn next_input(terminal: End, head: End, late: bool) -> Next {
     let at_terminal = event_due(terminal, head.oob_data == HAD);
     let at_head = event_due(head, true);
     let packet = next_packet(terminal, head);
@@ -143,7 +143,7 @@ fn made_due(event: u8) -> u8 {
 }
 
 // An end after a call that it has listed.
-pub fn after_call(mut end: End, kind: u8, body: &[u8]) -> End {
+pub(crate) fn after_call(mut end: End, kind: u8, body: &[u8]) -> End {
     if kind == 0x23 {
         end.pass_key = made_due(end.pass_key);
     }
@@ -169,7 +169,7 @@ fn past_packet(first: usize, size: usize) -> usize {
 }
 
 // An end that has got an input: an event is due no more, a packet has left the queue.
-pub fn after_input(mut end: End, given: Given, size: usize) -> End {
+pub(crate) fn after_input(mut end: End, given: Given, size: usize) -> End {
     match given {
         Given::EncryptionOn => end.report = HAD,
         Given::PassKey => end.pass_key = HAD,

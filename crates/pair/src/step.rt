@@ -14,7 +14,7 @@ use octet_values::DONE;
 use octet_values::call_at;
 
 // A packet joins the queue of the other end, whose octets end at a place; no other call does.
-pub fn send(kind: u8, body: &[u8], queue: &mut [u8], past: usize) -> usize {
+pub(crate) fn send(kind: u8, body: &[u8], queue: &mut [u8], past: usize) -> usize {
     if kind < 0x20 {
         let at = put(queue, past, kind);
         return put_all(queue, at, body);
@@ -174,7 +174,7 @@ fn run_on(
 }
 
 // A whole step.
-pub fn run(
+pub(crate) fn run(
     role: u8,
     input: u16,
     payload: &[u8],

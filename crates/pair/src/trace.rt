@@ -35,7 +35,7 @@ fn party(role: u8, name: &[u8], records: &[u8]) {
 }
 
 // Both ends, and the order of inputs.
-pub fn start(records: &[u8], late: bool) {
+pub(crate) fn start(records: &[u8], late: bool) {
     party(TERMINAL, b"terminal", records);
     party(HEAD, b"head", records);
     if late {
@@ -127,7 +127,7 @@ fn event_line(role: u8, input: u16, data: &[u8]) {
 }
 
 // Input n of a machine in this phase.
-pub fn input_line(n: u64, role: u8, phase: u8, input: u16, payload: &[u8]) {
+pub(crate) fn input_line(n: u64, role: u8, phase: u8, input: u16, payload: &[u8]) {
     if n < 10 {
         say(b" ");
     }
@@ -231,7 +231,7 @@ fn answered(kind: u8, answer: &[u8]) {
 }
 
 // A host call but a packet, and the answer.
-pub fn call_line(kind: u8, body: &[u8], answer: &[u8]) {
+pub(crate) fn call_line(kind: u8, body: &[u8], answer: &[u8]) {
     if kind < 0x20 {
         return;
     }
@@ -246,14 +246,14 @@ pub fn call_line(kind: u8, body: &[u8], answer: &[u8]) {
     say(b"\n");
 }
 
-pub fn refused_line(outcome: u8) {
+pub(crate) fn refused_line(outcome: u8) {
     say(b"      the step is refused by ");
     small(outcome);
     say(b"\n");
 }
 
 // The state before a step and after it.
-pub fn state_line(role: u8, before: u8, after: u8) {
+pub(crate) fn state_line(role: u8, before: u8, after: u8) {
     say(b"      ");
     end(role);
     if before == after {
@@ -285,7 +285,7 @@ fn verdict(terminal: u8, head: u8) {
 }
 
 // Both machines at the end, what encryption was called for with, and the number of inputs.
-pub fn summary(terminal: &[u8], head: &[u8], security_level: u8, key_size: u8, inputs: u64) {
+pub(crate) fn summary(terminal: &[u8], head: &[u8], security_level: u8, key_size: u8, inputs: u64) {
     say(b"\nterminal  ");
     state(TERMINAL, octet(terminal, 0));
     say(b"\nhead      ");
