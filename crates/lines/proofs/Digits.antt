@@ -14,7 +14,7 @@ use lib.ListN.{length, getD, drop, set, length-append, length-drop, drop-of-leng
 use lib.Seq.{drop-cons, set-at}
 use Rattle.octets.proofs.Parts.{written}
 use Rattle.octets.proofs.Lists.{whole}
-use Rattle.record.proofs.Pieces.{over-all}
+use Rattle.octets.proofs.Parts.{over-all}
 use Rattle.lines.specs.Text.{digit0, digit9, letterA, letterF}
 use Rattle.lines.specs.Lines.{andThen, digitOf, octetOf, octetsIn, octetsOfLength, sizeOf, laid}
 

@@ -126,8 +126,8 @@ fn input_of(input: u16, payload: &[u8]) -> TryInput
     }
 }
 
-// The record of a machine over another record.
-// requires because it has no refusal: the caller has read that other record.
+// The record of a machine over 161 octets.
+// requires because it has no refusal: the caller has read a record there, or has an array of that length.
 fn store(next: Machine, machine: &mut [u8])
     requires { ⌜ length (now machine) ≡ recordSize ⌝ }
     ensures { λ _. ⌜ now (machine .exit) ≡ machineOctets next ⌝ }
@@ -231,7 +231,7 @@ fn put_machine(machine: Machine, out: &mut [u8]) -> u8
     ensures { λ r. ⌜ wrote r (now (out .exit)) ≡ writes (now (out .entry)) (accepted (machineOctets machine)) ⌝ }
 {
     let mut octets = [0u8; 161];
-    write_machine(machine, &mut octets);
+    store(machine, &mut octets);
     put(&octets, out)
 }
 

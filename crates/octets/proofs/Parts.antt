@@ -1,12 +1,12 @@
 -- Laws of a part of a list that is written, and of a part that is lent, over place and width. Assumes nothing.
 use mathlib.Core.Path.{_≡_, refl, sym, ap, ap₂, _∙_}
 use mathlib.Core.Bool.{Bool, true, false}
-use mathlib.Core.List.{List, _++_, append-assoc}
+use mathlib.Core.List.{List, _++_, append-assoc, append-nil}
 use Prim.Native.Nat.{ℕ, _+_, _-_, _≤_, _<_}
 use native.Mathlib.Omega.{arith}
 use borrow.Author.Tests.{leb-true, le-leb, lt-leb}
 use borrow.Rule.Slice.PartMut.{putMid, post-is}
-use lib.ListN.{length, take, drop, length-append, length-drop}
+use lib.ListN.{length, take, drop, length-append, length-drop, drop-of-length-le}
 use lib.Seq.{take-at, drop-at, drop-drop, drop-append-add, length-take-le}
 use Rattle.octets.specs.Octets.{fitsAt, writeAt, Written}
 
@@ -92,3 +92,7 @@ written-then s v w at h a b =
       answer = b .answer ∙ ap (λ (t : List ℕ). fitsAt t (at + length v) w) (a .slice) ∙ fits (writeAt s at v) (at + length v) w first ∙ sym (fits s at (v ++ w) both);
       slice = b .slice ∙ ap (λ (t : List ℕ). writeAt t (at + length v) w) (a .slice) ∙ write-then s v w at h;
     }
+
+-- a string over all of another of its length
+pub over-all : (s w : List ℕ) → length s ≡ length w → writeAt s 0 w ≡ w
+over-all s w h = written s 0 w (omega arith) ∙ ap (λ (l : List ℕ). w ++ l) (drop-of-length-le s {i = 0 + length w} (omega arith)) ∙ append-nil w

@@ -1,11 +1,11 @@
 -- Pieces that are written one behind the other, at places i, j, k and m, are written as one. Assumes nothing.
 use mathlib.Core.Path.{_≡_, ap, _∙_}
-use mathlib.Core.List.{List, _++_, append-assoc, append-nil}
+use mathlib.Core.List.{List, _++_, append-assoc}
 use Prim.Native.Nat.{ℕ, _+_, _≤_}
 use native.Mathlib.Omega.{arith}
-use lib.ListN.{length, length-append, drop-of-length-le}
+use lib.ListN.{length, length-append}
 use Rattle.octets.specs.Octets.{writeAt}
-use Rattle.octets.proofs.Parts.{written, write-then}
+use Rattle.octets.proofs.Parts.{write-then}
 
 pub two : (s : List ℕ)
     (i : ℕ) (a : List ℕ) {s1 : List ℕ} → s1 ≡ writeAt s i a
@@ -31,7 +31,3 @@ pub four : (s : List ℕ)
 four s i a e1 j p b e2 k q c e3 m r d e4 h =
     three s i (a ++ b) (two s i a e1 j p b e2 (omega arith)) k (rw length-append (omega arith)) c e3 m r d e4 h
     ∙ ap (writeAt s i) (append-assoc a b (c ++ d))
-
--- a string over all of another of its length
-pub over-all : (s w : List ℕ) → length s ≡ length w → writeAt s 0 w ≡ w
-over-all s w h = written s 0 w (omega arith) ∙ ap (λ (l : List ℕ). w ++ l) (drop-of-length-le s {i = 0 + length w} (omega arith)) ∙ append-nil w

@@ -5,7 +5,7 @@ use denote.Ref.{now}
 use borrow.Author.Needs.{needs}
 use Rattle.record.specs.Record.{machineOctets}
 use Rattle.record.proofs.Sizes.{record-length}
-use Rattle.record.proofs.Pieces.{over-all}
+use Rattle.octets.proofs.Parts.{over-all}
 use Rattle.octet_steps.proofs.store.Statement.{statement}
 use Rattle.octet_steps.proofs.store.Tie as tie
 

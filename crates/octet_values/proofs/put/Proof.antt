@@ -3,7 +3,7 @@ use mathlib.Core.Path.{sym}
 use denote.Ref.{now}
 use borrow.Author.Needs.{needs}
 use borrow.Author.Tests.{eq-eqb, ne-eqb}
-use Rattle.octet_values.proofs.Whole.{over-all}
+use Rattle.octets.proofs.Parts.{over-all}
 use Rattle.octet_values.proofs.put.Statement.{statement}
 use Rattle.octet_values.proofs.put.Tie as tie
 

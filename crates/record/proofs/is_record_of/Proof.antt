@@ -4,7 +4,7 @@ use lib.ListN.{length, replicate}
 use borrow.Author.Needs.{needs}
 use Rattle.record.specs.Record.{machineOctets}
 use Rattle.record.proofs.Sizes.{record-length}
-use Rattle.record.proofs.Pieces.{over-all}
+use Rattle.octets.proofs.Parts.{over-all}
 use Rattle.record.proofs.is_record_of.Statement.{statement}
 use Rattle.record.proofs.is_record_of.Tie as tie
 

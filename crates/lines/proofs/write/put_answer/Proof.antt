@@ -10,7 +10,7 @@ use denote.Ref.{now}
 use Rattle.octets.specs.Octets.{writeAt}
 use Rattle.record.specs.Record.{machineOctets}
 use Rattle.record.proofs.Sizes.{record-length}
-use Rattle.record.proofs.Pieces.{over-all}
+use Rattle.octets.proofs.Parts.{over-all}
 use Rattle.lines.specs.AnswerLines.{octetsText, restText, textIn}
 use Rattle.lines.proofs.Texts.{octets-length, five}
 use borrow.Author.Needs.{needs}
