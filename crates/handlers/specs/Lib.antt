@@ -2,4 +2,3 @@ pub mod Outcomes
 pub mod Payloads
 pub mod Inputs
 pub mod Keys
-pub mod Phases

@@ -2,6 +2,4 @@ pub mod Fields
 pub mod Digits
 pub mod Values
 pub mod Buffers
-pub mod Decimals
-pub mod Texts
 pub mod Samples

@@ -6,7 +6,6 @@ use Rattle.machine.specs.declared.Event.the-variants.{LinkEncryptedResult, Pass
 use mathlib.Core.Bool.{true}
 use Rattle.machine.specs.declared.Input.the-variants as input
 use Rattle.lines.specs.Lines.{fields, digitOf, octetOf, octetsIn, octetsOfLength, roomOf, inputOf, octetsField}
-use Rattle.lines.specs.AnswerLines.{decimalIn, decimal, digitsText, octetsText}
 
 -- `c 12`
 two-fields : fields (99 ∷ 32 ∷ 49 ∷ 50 ∷ []) ≡ (99 ∷ []) ∷ (49 ∷ 50 ∷ []) ∷ []
@@ -71,21 +70,3 @@ link-encrypted = refl
 pass-key : inputOf (105 ∷ 48 ∷ 49 ∷ 48 ∷ 48 ∷ 48 ∷ 48 ∷ 48 ∷ 48 ∷ []) ≡ some (input.Event (PassKeyInput 1))
 unfolding digitOf octetOf octetsIn octetsOfLength inputOf
 pass-key = refl
-
--- `0` and `4096`
-zero-text : decimal 0 ≡ 48 ∷ []
-unfolding decimalIn decimal
-zero-text = refl
-
-count-text : decimal 4096 ≡ 52 ∷ 48 ∷ 57 ∷ 54 ∷ []
-unfolding decimalIn decimal
-count-text = refl
-
--- `0fa0`, and `-`
-octets-text : octetsText (15 ∷ 160 ∷ []) ≡ 48 ∷ 102 ∷ 97 ∷ 48 ∷ []
-unfolding digitsText octetsText
-octets-text = refl
-
-no-octets-text : octetsText [] ≡ 45 ∷ []
-unfolding octetsText
-no-octets-text = refl

@@ -21,20 +21,20 @@ use Rattle.record.specs.declared.ReadMachine.{ReadMachine}
 use Rattle.record.specs.declared.Reading.{Reading as RecordReading}
 use Rattle.record.specs.declared.Reading.the-variants as record-reading
 use Rattle.lines.specs.Text.{space, minus, digit0, digit1, digit9, letterA, letterC, letterF, letterI, letterK, letterL, letterO, letterP, letterX}
-use Rattle.lines.specs.declared.read.TryRole.{TryRole}
-use Rattle.lines.specs.declared.read.TryRole.the-variants as try-role
-use Rattle.lines.specs.declared.read.TryInput.{TryInput}
-use Rattle.lines.specs.declared.read.TryInput.the-variants as try-input
-use Rattle.lines.specs.declared.read.Digit.{Digit}
-use Rattle.lines.specs.declared.read.Digit.the-variants as digit
-use Rattle.lines.specs.declared.read.Number.{Number}
-use Rattle.lines.specs.declared.read.Number.the-variants as number
-use Rattle.lines.specs.declared.read.Ends.{Ends}
-use Rattle.lines.specs.declared.read.Split.{Split}
-use Rattle.lines.specs.declared.read.Split.the-variants as split
-use Rattle.lines.specs.declared.read.Reading.{Reading}
-use Rattle.lines.specs.declared.read.Reading.the-variants as reading
-use Rattle.lines.specs.declared.read.ReadLine.{ReadLine}
+use Rattle.lines.specs.declared.TryRole.{TryRole}
+use Rattle.lines.specs.declared.TryRole.the-variants as try-role
+use Rattle.lines.specs.declared.TryInput.{TryInput}
+use Rattle.lines.specs.declared.TryInput.the-variants as try-input
+use Rattle.lines.specs.declared.Digit.{Digit}
+use Rattle.lines.specs.declared.Digit.the-variants as digit
+use Rattle.lines.specs.declared.Number.{Number}
+use Rattle.lines.specs.declared.Number.the-variants as number
+use Rattle.lines.specs.declared.Ends.{Ends}
+use Rattle.lines.specs.declared.Split.{Split}
+use Rattle.lines.specs.declared.Split.the-variants as split
+use Rattle.lines.specs.declared.Reading.{Reading}
+use Rattle.lines.specs.declared.Reading.the-variants as reading
+use Rattle.lines.specs.declared.ReadLine.{ReadLine}
 
 -- what was read goes on to the next reading
 abbrev pub andThen : {A B : Type 0} → Option A → (A → Option B) → Option B

@@ -1,16 +1,16 @@
-// Answers step lines from standard input, to its end: a shell over `lines` and the entry by reference. What it does with the lines
-// is proved there; that it cuts its input at line feeds, and answers a last line without one as malformed, is tested.
+// Answers step lines from standard input, to its end: a shell over `lines`, `answer_lines` and the entry by reference. What it does
+// with the lines is proved there; that it cuts its input at line feeds, and answers a last line without one as malformed, is tested.
 ghost use Prim.Native.Nat.{_≤_, _<_};
 ghost use lib.ListN.{length};
+use answer_lines::Wrote;
+use answer_lines::write_answer;
+use answer_lines::write_malformed;
 use entry::step_local;
 use libc::STDIN_FILENO;
 use libc::STDOUT_FILENO;
 use lines::ReadLine;
 use lines::Reading;
-use lines::Wrote;
 use lines::read_line;
-use lines::write_answer;
-use lines::write_malformed;
 
 fn at_most(n: usize, most: usize) -> usize
     ensures { λ r. ⌜ r ≤ most ⌝ }
