@@ -20,13 +20,14 @@ const TEXTS: [(&str, &str); 7] = [
 ];
 
 /// Our own file, its place in the tree.
-const FILES: [(&str, &str); 11] = [
+const FILES: [(&str, &str); 12] = [
     ("stand-ins/types.rs", "types/mod.rs"),
     ("stand-ins/security_manager/mod.rs", "security_manager/mod.rs"),
     ("stand-ins/security_manager/constants.rs", "security_manager/constants.rs"),
     ("stand-ins/security_manager/pairing/central.rs", "security_manager/pairing/central.rs"),
     ("stand-ins/security_manager/pairing/peripheral.rs", "security_manager/pairing/peripheral.rs"),
     ("children/pairing.rs", "security_manager/pairing/record.rs"),
+    ("children/native.rs", "security_manager/pairing/record/native.rs"),
     ("children/util.rs", "security_manager/pairing/util/record.rs"),
     ("children/state.rs", "security_manager/pairing/legacy_central/record.rs"),
     ("children/state.rs", "security_manager/pairing/legacy_peripheral/record.rs"),

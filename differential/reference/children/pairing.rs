@@ -1,6 +1,9 @@
 //! Child of pairing/mod.rs: builds a machine from its record, runs the role's `handle_input` on
 //! it, and writes the record of the machine that comes out.
 
+#[cfg(feature = "bench")]
+pub mod native;
+
 use embassy_time::Instant;
 
 use super::util::record::{method, number};

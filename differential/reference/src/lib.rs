@@ -38,6 +38,8 @@ pub mod lines;
 pub mod machine;
 pub mod step;
 
+#[cfg(feature = "bench")]
+pub use security_manager::pairing::record::native;
 pub use step::{step, Answer, Input, Outcome, Role, Step};
 
 /// The confirm value of the texts' crypto.rs, on numbers; addresses most significant octet first.
