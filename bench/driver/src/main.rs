@@ -217,6 +217,17 @@ fn race_pairing<E: End>(race: &mut Race, case: &Case) {
     race.run(PAIRINGS, |clock| played::<E>(case, clock), |clock| played::<Rust>(case, clock));
 }
 
+/// A chain: each takes the result of the one before.
+fn chained<T>(clock: &mut time::Clock, first: T, next: impl Fn(T) -> T) {
+    let mut chain = first;
+    clock.start();
+    for _ in 0..BATCH {
+        chain = next(chain);
+    }
+    clock.stop();
+    black_box(chain);
+}
+
 fn race_c1(race: &mut Race) {
     let (k, r, preq, pres) = black_box(([7; 16], [9; 16], [1, 3, 0, 1, 16, 3, 3], [2, 3, 0, 1, 16, 3, 3]));
     let (ia, ra) = black_box(([0, 1, 2, 3, 4, 5, 6], [1, 7, 8, 9, 10, 11, 12]));
@@ -227,24 +238,8 @@ fn race_c1(race: &mut Race) {
     assert_eq!(u128::from_le_bytes(legacy_pairing::c1(&k, &r, &preq, &pres, &ia, &ra)), rusts(r_number), "c1");
     race.run(
         BATCH,
-        |clock| {
-            let mut chain = r;
-            clock.start();
-            for _ in 0..BATCH {
-                chain = legacy_pairing::c1(&k, &chain, &preq, &pres, &ia, &ra);
-            }
-            clock.stop();
-            black_box(chain);
-        },
-        |clock| {
-            let mut chain = r_number;
-            clock.start();
-            for _ in 0..BATCH {
-                chain = rusts(chain);
-            }
-            clock.stop();
-            black_box(chain);
-        },
+        |clock| chained(clock, r, |r| legacy_pairing::c1(&k, &r, &preq, &pres, &ia, &ra)),
+        |clock| chained(clock, r_number, rusts),
     );
 }
 
@@ -258,24 +253,8 @@ fn race_s1(race: &mut Race) {
     );
     race.run(
         BATCH,
-        |clock| {
-            let mut chain = r;
-            clock.start();
-            for _ in 0..BATCH {
-                chain = legacy_pairing::s1(&k, &chain, &other);
-            }
-            clock.stop();
-            black_box(chain);
-        },
-        |clock| {
-            let mut chain = r_number;
-            clock.start();
-            for _ in 0..BATCH {
-                chain = reference::s1(k_number, chain, other_number);
-            }
-            clock.stop();
-            black_box(chain);
-        },
+        |clock| chained(clock, r, |r| legacy_pairing::s1(&k, &r, &other)),
+        |clock| chained(clock, r_number, |r| reference::s1(k_number, r, other_number)),
     );
 }
 

@@ -25,6 +25,8 @@ use crate::trace::start;
 use crate::trace::state_line;
 use crate::trace::summary;
 use octet_steps::new_machine;
+use types::Command;
+use types::TryCommand;
 
 // The number of an input, of the oldest packet where it is one.
 fn input_number(given: Given, packets: &[u8]) -> u16 {
@@ -39,12 +41,9 @@ fn input_number(given: Given, packets: &[u8]) -> u16 {
 
 // The octets of a packet's payload.
 fn payload_size(code: u8) -> usize {
-    match code {
-        0x01 => 6,
-        0x02 => 6,
-        0x07 => 10,
-        0x09 => 7,
-        _ => 16,
+    match Command::try_from(code) {
+        TryCommand::Ok(command) => command.payload_size() as usize,
+        TryCommand::InvalidValue => 0,
     }
 }
 
