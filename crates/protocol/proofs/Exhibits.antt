@@ -29,7 +29,7 @@ use Rattle.protocol.specs.FairLink.{Start, AreOctets, NamesNoMore, FairS
 use Rattle.protocol.specs.FairRuns.{entries, keys, responseIn, responsesIn, WaitsForIdentityKey}
 use Rattle.protocol.proofs.Allowed.{any-shared}
 use Rattle.protocol.proofs.FairSides.{of-all-append}
-use Rattle.protocol.proofs.FairRunsEnd.{every-fair-run-ends}
+use Rattle.protocol.proofs.FairRunsEnd.{calls-grow, every-fair-run-ends}
 
 abbrev areAllOctets : List ℕ → Bool
 areAllOctets [] = true
@@ -159,24 +159,6 @@ abbrev headOr : PairingFeatures → List PairingFeatures → PairingFeatures
 headOr x [] = x
 headOr x (y ∷ l) = y
 
--- calls are only added
-calls-grow :
-    {shared : Shared} {L L₁ : Link} {moves inputs : ℕ} → Moves shared L moves inputs L₁ →
-    (more : List Call) × (L₁ .head .calls ≡ L .head .calls ++ more)
-calls-grow {L = L} noMove = ([], sym (append-nil (L .head .calls)))
-calls-grow (move (takePacket Central p queue answers o q u f) xs) = calls-grow xs
-calls-grow {L = L} (move (takePacket Peripheral p queue answers o q u f) xs) =
-    let z = calls-grow xs in
-    (_, z .1 ∙ append-assoc (L .head .calls) _ (z .0))
-calls-grow (move (takeEvent Central e earlier later answers o q u f) xs) = calls-grow xs
-calls-grow {L = L} (move (takeEvent Peripheral e earlier later answers o q u f) xs) =
-    let z = calls-grow xs in
-    (_, z .1 ∙ append-assoc (L .head .calls) _ (z .0))
-calls-grow (move (runAgain Central g answers x added o f) xs) = calls-grow xs
-calls-grow {L = L} (move (runAgain Peripheral g answers x added o f) xs) =
-    let z = calls-grow xs in
-    (_, z .1 ∙ append-assoc (L .head .calls) _ (z .0))
-
 -- the answer of such a run is the one of its first step
 full-answer : (first : Link) (L : Link) (more : List Call) (answer : PairingFeatures) →
     responsesIn (first .head .calls) ≡ full ∷ [] → L .head .calls ≡ first .head .calls ++ more →
@@ -206,7 +188,7 @@ longest-of shared a b =
     let run : Run shared (freshLink s) (suc (z .0)) (suc (z .1)) (z .2) =
     record { all = move (first .1) (z .3 .all); over = z .3 .over } in
     let ends = all-end .comesTo (suc (z .0)) (suc (z .1)) (z .2) run in
-    let grown = calls-grow (z .3 .all) in
+    let grown = calls-grow Peripheral (z .3 .all) in
     let is-full = full-answer (first .0) (z .2) (grown .0) (ends .answer) (first .2) (grown .1) (ends .answered) in
     let eighteen = eighteen-counted (ends .answer) (suc (z .1)) is-full (ends .counted) in
     (suc (z .0), z .2, subst (λ n. Run shared (freshLink s) (suc (z .0)) n (z .2)) eighteen run)

@@ -1,11 +1,12 @@
 -- Demand 3: every fair run ends, and how. Assumes nothing.
 use Prim.Native.Nat.{ℕ, zero, suc, _+_, _≤_}
-use mathlib.Core.Path.{_≡_, refl, sym, _∙_, subst, subst₂}
+use mathlib.Core.Path.{_≡_, refl, sym, ap, _∙_, subst, subst₂}
 use mathlib.Core.Bool.{Bool, true, false, cond}
-use mathlib.Core.List.{List, [], _∷_, _++_}
+use mathlib.Core.List.{List, [], _∷_, _++_, append-nil, append-assoc}
 use mathlib.Core.Logic.{_⊎_, inl, inr}
 use mathlib.Core.Option.{Option, none, some}
 use native.Mathlib.Omega.{arith}
+use lib.ListN.{length, drop}
 use Rattle.types.specs.declared.types.Command.the-variants as command
 use Rattle.util.specs.Method.{legacyMethod}
 use Rattle.util.specs.declared.util.PairingMethod.{PairingMethod}
@@ -13,15 +14,17 @@ use Rattle.util.specs.declared.util.PairingMethod.the-variants as method
 use Rattle.util.specs.declared.util.PassKeyEntryAction.{PassKeyEntryAction}
 use Rattle.util.specs.declared.util.PassKeyEntryAction.the-variants as action
 use Rattle.types.specs.declared.types.PairingFeatures.{PairingFeatures}
+use Rattle.host.specs.declared.call.Call.{Call}
 use Rattle.machine.specs.declared.Role.{Role}
 use Rattle.machine.specs.declared.Role.the-variants.{Central, Peripheral}
 use Rattle.protocol.specs.Handlers.{namesEncryptionKey, namesIdentityKey}
-use Rattle.protocol.specs.FairLink.{Start, FairStart, Shared, Link, endOf, freshLink, MoveKind, anInput, aReRun, Move, takePacket, takeEvent, runAgain, countInput, Moves, noMove, move, Run, Idle}
-use Rattle.protocol.specs.FairRuns.{typesAs, entries, bothBond, countNamed, keysNamed, keys, RunEnds, EveryFairRunEnds}
+use Rattle.protocol.specs.FairLink.{Start, FairStart, Shared, QueuedPacket, Due, Given, aPacket, anEvent, Link, endOf, freshLink, callsAt, linkAfter, MoveKind, anInput, aReRun, Move, takePacket, takeEvent, runAgain, countInput, Moves, noMove, move, Run, Idle}
+use Rattle.protocol.specs.FairRuns.{typesAs, entries, bothBond, countNamed, keysNamed, keys, displayIn, displaysIn, AreAll, RunEnds, EveryFairRunEnds}
 use Rattle.protocol.proofs.Codes.{code-known}
 use Rattle.protocol.proofs.Exchange.{Empty}
 use Rattle.protocol.proofs.InStep.{start}
 use Rattle.protocol.proofs.Pairing.{pairing, Agreed}
+use Rattle.protocol.proofs.FairSides.{of-all-append}
 use Rattle.protocol.proofs.TerminalFollows.{terminal-follows}
 use Rattle.protocol.proofs.HeadFollows.{head-follows}
 use Rattle.protocol.proofs.FairMoves.{LinkInStep, kept, not-refused-move, idle-none, idle-machine, Moving, terminalSide, headSide, AllOver, goes-on}
@@ -72,6 +75,52 @@ still shared L idle k L₁ (takePacket r p queue answers u q v f) = subst Empty 
 still shared L idle k L₁ (takeEvent r ε earlier later answers u q v f) =
     not-empty earlier later ε (subst Empty (sym (idle r .noneDue) ∙ q) tt)
 still shared L idle k L₁ (runAgain r g answers x added q f) = subst IsNone (sym (idle r .noneOpen) ∙ q) tt
+
+-- ---- calls are only added
+
+grown-by :
+    (shared : Shared) (r who : Role) (L : Link) (g : Given) (answers : List ℕ) (queue : List QueuedPacket)
+    (due : List Due) (new : List Call) →
+    (more : List Call) × (endOf r (linkAfter shared who L g answers queue due new) .calls ≡ endOf r L .calls ++ more)
+grown-by shared Central Central L g answers queue due new = (new, refl)
+grown-by shared Central Peripheral L g answers queue due new = ([], sym (append-nil (L .terminal .calls)))
+grown-by shared Peripheral Central L g answers queue due new = ([], sym (append-nil (L .head .calls)))
+grown-by shared Peripheral Peripheral L g answers queue due new = (new, refl)
+
+grown-after :
+    {shared : Shared} {L L₁ : Link} {k : MoveKind} (r : Role) → Move shared L k L₁ →
+    (more : List Call) × (endOf r L₁ .calls ≡ endOf r L .calls ++ more)
+grown-after {shared} {L} r (takePacket who p queue answers o q u f) =
+    grown-by shared r who L (aPacket p) answers queue (endOf who L .due) (callsAt shared who L (aPacket p) answers)
+grown-after {shared} {L} r (takeEvent who e earlier later answers o q u f) =
+    grown-by shared r who L (anEvent e) answers (endOf who L .queue) (earlier ++ later)
+    (callsAt shared who L (anEvent e) answers)
+grown-after {shared} {L} r (runAgain who g answers x added o f) =
+    grown-by shared r who L g (answers ++ (x ∷ added)) (endOf who L .queue) (endOf who L .due)
+    (drop (length (callsAt shared who L g answers)) (callsAt shared who L g (answers ++ (x ∷ added))))
+
+pub calls-grow :
+    {shared : Shared} {L L₁ : Link} {moves inputs : ℕ} (r : Role) → Moves shared L moves inputs L₁ →
+    (more : List Call) × (endOf r L₁ .calls ≡ endOf r L .calls ++ more)
+calls-grow {L = L} r noMove = ([], sym (append-nil (endOf r L .calls)))
+calls-grow {L = L} r (move x xs) =
+    let y = grown-after r x in
+    let z = calls-grow r xs in
+    (_, z .1 ∙ ap (λ l. l ++ z .0) (y .1) ∙ append-assoc (endOf r L .calls) (y .0) (z .0))
+
+-- ---- what was shown
+
+are-all-front : (n : ℕ) (l more : List ℕ) → AreAll n (l ++ more) → AreAll n l
+are-all-front n [] more h = tt
+are-all-front n (x ∷ l) more h = (h .0, are-all-front n l more (h .1))
+
+-- of the calls by now, by those later
+shown-before :
+    (n : ℕ) (calls more later : List Call) → later ≡ calls ++ more → AreAll n (displaysIn later) →
+    AreAll n (displaysIn calls)
+shown-before n calls more later e h =
+    are-all-front n (displaysIn calls) (displaysIn more)
+    (subst (AreAll n) (ap displaysIn e ∙ of-all-append displayIn calls more) h)
 
 -- the calls and inputs of each end, at most: as TerminalFollows and HeadFollows count them, but for the last rest
 abbrev terminalMoves : ℕ
@@ -137,6 +186,11 @@ module _ (shared : Shared) (s : Start) where
           sameBonds = agreed .sameBonds;
         }
 
+    -- what each end has shown by then
+    all-shown : (r : Role) → AreAll (shared .shown) (displaysIn (endOf r L .calls))
+    all-shown Central = agreed .terminalShows
+    all-shown Peripheral = agreed .headShows
+
     few-inputs : n ≤ 18
     few-inputs =
         omega (
@@ -158,7 +212,7 @@ module _ (shared : Shared) (s : Start) where
   abbrev Finishes : (n : ℕ) → Link → Type 0
   Finishes n L =
       (moves : ℕ) × (inputs : ℕ) × (L₁ : Link) × Run shared L moves inputs L₁ × RunEnds (s .request) (n + inputs) L₁
-      × (n + inputs ≤ 18)
+      × (n + inputs ≤ 18) × ((r : Role) → AreAll (shared .shown) (displaysIn (endOf r L₁ .calls)))
 
   here-finished : (L : Link) (d e n : ℕ) (h : LinkInStep shared s d e n L) → AllOver shared s h → Finishes n L
   here-finished L d e n h o =
@@ -169,6 +223,7 @@ module _ (shared : Shared) (s : Start) where
         record { all = noMove; over = over-still L d e n h o },
         subst (λ k. RunEnds (s .request) k L) same (run-ends L d e n h o),
         omega (arith, few-inputs L d e n h o),
+        all-shown L d e n h o,
       )
 
   then-finishes : (n : ℕ) (L : Link) (m : Moving shared s L) → Finishes (countInput (m .0) n) (m .1) → Finishes n L
@@ -180,6 +235,7 @@ module _ (shared : Shared) (s : Start) where
         record { all = move (m .2) (y .3 .all); over = y .3 .over },
         subst (λ k. RunEnds (s .request) k (y .2)) same (y .4),
         subst (λ k. k ≤ 18) same (y .5),
+        y .6,
       )
 
   finishes : (b : ℕ) (L : Link) (d e n : ℕ) → d + e ≤ b → LinkInStep shared s d e n L → Finishes n L
@@ -246,6 +302,9 @@ every-fair-run-ends s fair = (
     accepted = λ moves inputs L x. let z = in-step shared s fair moves inputs L x in
         not-refused-move shared s L (z .0) (z .1) (0 + inputs) (z .3);
     fewInputs = λ moves inputs L x. let z = then-ends shared s fair moves inputs L x in omega (arith, z .5);
+    shows = λ moves inputs L x r. let z = then-ends shared s fair moves inputs L x in
+        let grown = calls-grow r (z .3 .all) in
+        shown-before (shared .shown) (endOf r L .calls) (grown .0) (endOf r (z .2) .calls) (grown .1) (z .6 r);
     comesTo = λ moves inputs L x. comes-to shared s fair moves inputs L x;
   },
 )

@@ -17,12 +17,12 @@ use Rattle.protocol.specs.Program.{Ending, ended, wanting, refusing, Pla
 use Rattle.protocol.specs.Ops.{replyAt, Program}
 use Rattle.protocol.specs.Step.{handleInput, playOf, isKnown, stepped, step}
 use Rattle.protocol.specs.FairLink.{Start, Shared, FairAnswers, QueuedPacket, Due, passKey, oobData, encryptionOn, Given, aPacket, anEvent, inputOf, payloadOf, OpenStep, End, Link, ofAll, sentBy, hasListed, madeDueBy, madeDueByAll, machineAt, stepAt, FairHost, openAfter}
-use Rattle.protocol.specs.FairRuns.{responseIn, encryptionIn, NotRefused}
+use Rattle.protocol.specs.FairRuns.{responseIn, ltkIn, identificationIn, displayIn, encryptionIn, NotRefused}
 use Rattle.protocol.proofs.Codes.{code-known}
 use Rattle.protocol.proofs.Programs.{along}
 use Rattle.protocol.proofs.Exchange.{optional, System, Local, locally, noteAll}
 use Rattle.protocol.proofs.InStep.{sendAll, Act, actAfter, Side, side}
-use Rattle.protocol.proofs.Pairing.{summary, listed, firstOf, pairing, Agreed}
+use Rattle.protocol.proofs.Pairing.{summary, withNew, listed, firstOf, pairing, Agreed}
 
 -- ---- what is kept of calls, with calls more
 
@@ -48,14 +48,26 @@ of-all-last : {X : Type 0} (f : Call → List X) (cs : List Call) (c : Call) →
     ++ f c
 of-all-last f cs c = of-all-append f cs (c ∷ []) ∙ ap (λ x. ofAll f cs ++ x) (append-nil (f c))
 
+new-last : {X : Type 0} (l new : List X) → withNew l new ≡ l ++ new
+new-last l [] = sym (append-nil l)
+new-last l (x ∷ new) = refl
+
+listed-last :
+    {X : Type 0} (f : Call → List X) (before : List Call) (c : Call) →
+    withNew (ofAll f before) (f c) ≡ ofAll f (before ++ (c ∷ []))
+listed-last f before c = new-last (ofAll f before) (f c) ∙ sym (of-all-last f before c)
+
 summary-listed : (before : List Call) (c : Call) → listed c (summary before) ≡ summary (before ++ (c ∷ []))
 summary-listed before c =
     rw (
       has-listed 0x23 before c,
       has-listed 0x25 before c,
       has-listed 0x3A before c,
-      of-all-last encryptionIn before c,
-      of-all-last responseIn before c,
+      listed-last encryptionIn before c,
+      listed-last responseIn before c,
+      listed-last ltkIn before c,
+      listed-last identificationIn before c,
+      listed-last displayIn before c,
     ) refl
 
 -- a call sends at most one packet

@@ -51,7 +51,8 @@ use Rattle.protocol.proofs.Exchange.{signalling, finished}
 use Rattle.protocol.proofs.Payloads.{some-word, word-in, features-in, identification-in, address-in}
 use Rattle.protocol.proofs.Payloads.{encryption-named, identity-named}
 use Rattle.protocol.proofs.FairReplies.{FairData}
-use Rattle.protocol.proofs.Pairing.{pairing, plus, headEntries, inputsOfHead, Answer, SentKeys, HeadFollows, having}
+use Rattle.protocol.proofs.Pairing.{pairing, plus, headEntries, inputsOfHead, Answer, SentKeys, sentKeys, HeadFollows}
+use Rattle.protocol.proofs.Pairing.{Entry, noEntry, typedEntry, shownEntry, oobEntry, having}
 use Rattle.protocol.proofs.Pairing.{tkOf, chosen, both, preq, pres, confirmOf, Keeps, SentIfClaimed, HeadDone}
 use Rattle.protocol.proofs.Pairing.{ending, identityKey, terminalEncryption, terminalKeys, headKeys, afterSrand}
 use Rattle.protocol.proofs.Pairing.{afterSconfirm, afterMconfirm, confirms, afterResponse, afterRequest}
@@ -108,16 +109,20 @@ module _ (shared : Shared) (s : Start) (a : Answer s) where
 
   -- ---- once encryption is called for
 
-  module _ (e : Encryption) (typing oob : Bool) where
+  module _ (e : Encryption) (entry : Entry shared) where
+    -- .. the head has sent keys of its own, or none
+    abbrev encryptedWith : Option SentKeys → List Due → ℕ → Local (pairing shared)
+    encryptedWith keys due n = having shared entry true (e ∷ []) (a .features ∷ []) keys due n
+
     abbrev encrypted : List Due → ℕ → Local (pairing shared)
-    encrypted due n = having shared typing oob true (e ∷ []) (a .features ∷ []) due n
+    encrypted due n = encryptedWith none due n
 
     module _ (ends : excepted (s .request) (a .features) ≡ false) where
       module _ (x : Option SentKeys) (due : SentIfClaimed s a x) where
         -- Success is entered, whichever address the peer has by now
         enters-success :
             (d n : ℕ) (peer : Address) (b : BondInformation) → Keeps s a x b → n ≡ inputsOfHead s a →
-            HeadFollows shared s (plus 3 d) (ending shared s a e x due) (encrypted [] n)
+            HeadFollows shared s (plus 3 d) (ending shared s a e x due) (encryptedWith x [] n)
             (enter (enters phase.Success noConfirmData (withPeerAddress peer (headData (option.Some b)))))
         unfolding enter
         enters-success d n peer b k all = go (wantBonding (m .«pairing_data»))
@@ -125,7 +130,7 @@ module _ (shared : Shared) (s : Start) (a : Answer s) where
             m : Machine
             m = enters phase.Success noConfirmData (withPeerAddress peer (headData (option.Some b)))
 
-            done : HeadDone shared s a e x m (encrypted [] n)
+            done : HeadDone shared s a e x m (encryptedWith x [] n)
             done =
                 record {
                   responds = refl;
@@ -133,10 +138,13 @@ module _ (shared : Shared) (s : Start) (a : Answer s) where
                   inputs = all;
                   ends = rw ends;
                   stored = (b, refl, k);
+                  sentLtk = refl;
+                  sentIdentification = refl;
+                  shows = entry .areShared;
                 }
 
             go : (bonds : Bool) →
-                HeadFollows shared s (plus 3 d) (ending shared s a e x due) (encrypted [] n) (enterBonded m b bonds)
+                HeadFollows shared s (plus 3 d) (ending shared s a e x due) (encryptedWith x [] n) (enterBonded m b bonds)
             go true = quiet refl λ u. quiet refl λ v. finished done
             go false = quiet refl λ u. finished done
 
@@ -145,7 +153,7 @@ module _ (shared : Shared) (s : Start) (a : Answer s) where
             (d n : ℕ) (b : BondInformation) → Keeps s a x b →
             (named : Bool) → n + 2 * countNamed named ≡ inputsOfHead s a →
             HeadFollows shared s (plus 5 d) (identityKey shared s a opener named (ending shared s a e x due))
-            (encrypted [] n) (bind (awaitIdentityOrSucceed (headData (option.Some b)) named) entered)
+            (encryptedWith x [] n) (bind (awaitIdentityOrSucceed (headData (option.Some b)) named) entered)
         unfolding awaitIdentityOrSucceed enter «handle_input» transition «handle_identity_information» withIrk
             «handle_identity_address_information» withIdentityAddress
         awaits-identity d n b k true all =
@@ -162,7 +170,7 @@ module _ (shared : Shared) (s : Start) (a : Answer s) where
             (terminalEncryption shared s a named
             (identityKey shared s a opener (namesIdentityKey (s .request .«initiator_key_distribution»))
             (ending shared s a e x due)))
-            (encrypted [] n) (bind (awaitKeys (headData (option.Some b)) named) entered)
+            (encryptedWith x [] n) (bind (awaitKeys (headData (option.Some b)) named) entered)
         unfolding awaitKeys enter «handle_input» transition «handle_encryption_information»
             «handle_central_identification»
         awaits-keys d n b k true all =
@@ -177,7 +185,7 @@ module _ (shared : Shared) (s : Start) (a : Answer s) where
             n + 2 * keysAwaited (namesEncryptionKey (s .request .«initiator_key_distribution»)) ≡ inputsOfHead s a →
             (named : Bool) →
             HeadFollows shared s (plus 11 d) (identityKey shared s a replier named (terminalKeys shared s a e x due))
-            (encrypted [] n) (bind (fromIdentity (headData (option.Some b)) named) entered)
+            (encryptedWith x [] n) (bind (fromIdentity (headData (option.Some b)) named) entered)
         unfolding sendIdentityKey
         sends-identity d n b k all true =
             quiet refl λ irk. says irk refl λ u. quiet refl λ address. says address refl λ v. awaits-keys d n b k _ all
@@ -193,8 +201,7 @@ module _ (shared : Shared) (s : Start) (a : Answer s) where
       unfolding sendEncryptionKey withKeys negotiatedKeySize
       sends-keys d n b all true p =
           quiet refl λ ltk. quiet refl λ ediv. quiet refl λ rand. says ltk refl λ u. says (ediv, rand) refl λ v.
-          let sent : SentKeys = record { ltk = ltk .0; ediv = ediv .0; rand = rand .0 } in
-          sends-identity (some sent) _ d n _ (refl, refl, refl) all _
+          sends-identity (some (sentKeys (ltk .0) (ediv .0) (rand .0))) _ d n _ (refl, refl, refl) all _
       sends-keys d n b all false p = sends-identity none _ (plus 5 d) n b tt all _
 
     -- where not both bond no key is sent: where the request names the terminal's identity key, the head waits for it
@@ -212,6 +219,9 @@ module _ (shared : Shared) (s : Start) (a : Answer s) where
           inputs = all;
           ends = rw (p, q) (waits-for-identity (headData (option.Some b)) b refl);
           stored = (b, refl, tt);
+          sentLtk = refl;
+          sentIdentification = refl;
+          shows = entry .areShared;
         })
     sends-none d n b due p all false q = enters-success (rw (p, q)) none due d n _ b tt all
 
@@ -243,8 +253,8 @@ module _ (shared : Shared) (s : Start) (a : Answer s) where
 
   -- ---- before that: confirm values and nonces
 
-  abbrev unencrypted : (typing oob : Bool) → List Due → ℕ → Local (pairing shared)
-  unencrypted typing oob due n = having shared typing oob false [] (a .features ∷ []) due n
+  abbrev unencrypted : Entry shared → List Due → ℕ → Local (pairing shared)
+  unencrypted entry due n = having shared entry false [] (a .features ∷ []) none due n
 
   -- the confirm data with a temporary key
   abbrev keyed : Word128 → ConfirmPhaseData
@@ -260,29 +270,29 @@ module _ (shared : Shared) (s : Start) (a : Answer s) where
 
   -- Mrand agrees with Mconfirm: Srand goes out, and encryption is called for
   takes-mrand :
-      (d n : ℕ) (typing oob : Bool) (mrand : FairData aNonce) (srand : Nonce) →
+      (d n : ℕ) (entry : Entry shared) (mrand : FairData aNonce) (srand : Nonce) →
       n ≡ 2 + headEntries (chosen s a) →
-      HeadFollows shared s (plus 20 d) (afterSconfirm shared s a (mrand .0) srand) (unencrypted typing oob [] n)
+      HeadFollows shared s (plus 20 d) (afterSconfirm shared s a (mrand .0) srand) (unencrypted entry [] n)
       (ret (enters (phase.WaitingPairingRandom (confirmOf shared s a (mrand .0)))
       (withNonce (keyed (tkOf shared (chosen s a))) srand) (headData option.None)))
   unfolding «handle_input» transition «handle_pairing_random» enableEncryption negotiatedKeySize enter
-  takes-mrand d n typing oob mrand srand all =
+  takes-mrand d n entry mrand srand all =
       takes λ u. rw (word-in (mrand .0 .0) (mrand .1), confirm-value srand (mrand .0), same-refl)
-      (says tt refl λ v. quiet refl λ b. takes-report _ typing oob d (suc n) b (omega arith))
+      (says tt refl λ v. quiet refl λ b. takes-report _ entry d (suc n) b (omega arith))
 
   -- Sconfirm goes out, where the temporary key is the method's
   sends-sconfirm :
-      (d n : ℕ) (typing oob : Bool) (mrand : FairData aNonce) (tk : Word128) →
+      (d n : ℕ) (entry : Entry shared) (mrand : FairData aNonce) (tk : Word128) →
       n ≡ 2 + headEntries (chosen s a) → tkOf shared (chosen s a) ≡ tk →
-      HeadFollows shared s (plus 22 d) (afterMconfirm shared s a mrand) (unencrypted typing oob [] n)
+      HeadFollows shared s (plus 22 d) (afterMconfirm shared s a mrand) (unencrypted entry [] n)
       (bind (answerConfirm (keyed tk) (headData option.None) (confirmOf shared s a (mrand .0))) entered)
   unfolding «send_sconfirm» confirmValue enter
-  sends-sconfirm d n typing oob mrand tk all e =
+  sends-sconfirm d n entry mrand tk all e =
       subst
-      (λ t. HeadFollows shared s (plus 22 d) (afterMconfirm shared s a mrand) (unencrypted typing oob [] n)
+      (λ t. HeadFollows shared s (plus 22 d) (afterMconfirm shared s a mrand) (unencrypted entry [] n)
       (bind (answerConfirm (keyed t) (headData option.None) (confirmOf shared s a (mrand .0))) entered))
       e
-      (quiet refl λ srand. says srand refl λ u. takes-mrand d n typing oob mrand (srand .0) all)
+      (quiet refl λ srand. says srand refl λ u. takes-mrand d n entry mrand (srand .0) all)
 
   -- a confirm value is read as it was sent
   confirm-in : (r : Nonce) → wordIn (octetsOf (confirmOf shared s a r .0)) ≡ some (confirmOf shared s a r .0)
@@ -290,41 +300,41 @@ module _ (shared : Shared) (s : Start) (a : Answer s) where
 
   -- Mconfirm is answered at once, where the temporary key is there
   takes-mconfirm :
-      (d n : ℕ) (typing oob : Bool) (tk : Word128) → n ≡ 1 + headEntries (chosen s a) →
+      (d n : ℕ) (entry : Entry shared) (tk : Word128) → n ≡ 1 + headEntries (chosen s a) →
       tkOf shared (chosen s a) ≡ tk →
-      HeadFollows shared s (plus 23 d) (confirms shared s a) (unencrypted typing oob [] n)
+      HeadFollows shared s (plus 23 d) (confirms shared s a) (unencrypted entry [] n)
       (ret (enters phase.WaitingPairingConfirm (keyed tk) (headData option.None)))
   unfolding «handle_input» transition «handle_peer_confirm»
-  takes-mconfirm d n typing oob tk all e =
-      takes λ mrand. rw (confirm-in (mrand .0)) (sends-sconfirm d (suc n) typing oob mrand tk (omega arith) e)
+  takes-mconfirm d n entry tk all e =
+      takes λ mrand. rw (confirm-in (mrand .0)) (sends-sconfirm d (suc n) entry mrand tk (omega arith) e)
 
   -- the passkey is typed, before Mconfirm comes or after
   takes-passkey :
       (d : ℕ) → headEntries (chosen s a) ≡ 1 →
       tkOf shared (chosen s a) ≡ passKeyTk (cond (shows (chosen s a)) (shared .shown) (shared .typed)) →
-      HeadFollows shared s (plus 24 d) (confirms shared s a) (unencrypted true false (passKey ∷ []) 1)
+      HeadFollows shared s (plus 24 d) (confirms shared s a) (unencrypted (typedEntry shared) (passKey ∷ []) 1)
       (ret (enters (phase.WaitingPassKeyInput stored.None) (keyed zeroWord) (headData option.None)))
   unfolding «handle_input» transition «handle_pass_key_input» «store_confirm_bytes» enter
   takes-passkey d one e =
-      either refl refl refl (takes-mconfirm d 2 true false _ (omega arith) e)
+      either refl refl refl (takes-mconfirm d 2 (typedEntry shared) _ (omega arith) e)
       (λ mrand. rw (confirm-in (mrand .0))
-      (owing refl refl refl (sends-sconfirm d 3 true false mrand _ (omega arith) e)))
+      (owing refl refl refl (sends-sconfirm d 3 (typedEntry shared) mrand _ (omega arith) e)))
 
   -- the method begins
   begins-method :
       (d : ℕ) (m : PairingMethod) → chosen s a ≡ m →
-      HeadFollows shared s (plus 25 d) (afterResponse shared s a m) (unencrypted false false [] 1)
+      HeadFollows shared s (plus 25 d) (afterResponse shared s a m) (unencrypted (noEntry shared) [] 1)
       (bind (beginMethod (preq s a) (pres s a) (headData option.None) m) entered)
   unfolding beginMethod enter «handle_input» transition
-  begins-method d method.JustWorks e = takes-mconfirm (plus 2 d) 1 false false _ (rw e) (rw e)
+  begins-method d method.JustWorks e = takes-mconfirm (plus 2 d) 1 (noEntry shared) _ (rw e) (rw e)
   begins-method d method.NumericComparison e = absurd (never-numeric (s .request) (a .features) e)
   begins-method d (method.PassKeyEntry action.Display action.Display) e =
-      quiet refl λ u. quiet refl λ v. takes-mconfirm d 1 false false _ (rw e) (rw e)
+      quiet refl λ u. quiet refl λ v. takes-mconfirm d 1 (shownEntry shared) _ (rw e) (rw e)
   begins-method d (method.PassKeyEntry action.Input action.Display) e =
-      quiet refl λ u. quiet refl λ v. takes-mconfirm d 1 false false _ (rw e) (rw e)
+      quiet refl λ u. quiet refl λ v. takes-mconfirm d 1 (shownEntry shared) _ (rw e) (rw e)
   begins-method d (method.PassKeyEntry central action.Input) e = quiet refl λ u. takes-passkey d (rw e) (rw e)
   begins-method d method.OutOfBand e =
-      quiet refl λ u. signalling refl refl refl (takes-mconfirm d 2 false true _ (rw e) (rw e))
+      quiet refl λ u. signalling refl refl refl (takes-mconfirm d 2 (oobEntry shared) _ (rw e) (rw e))
 
 -- ---- the request, and the answer to it
 
@@ -363,7 +373,7 @@ module _ (shared : Shared) (s : Start) (fair : FairStart s) where
     fromNamed named
 
   abbrev requested : Local (pairing shared)
-  requested = having shared false false false [] [] [] 1
+  requested = having shared (noEntry shared) false [] [] none [] 1
 
   -- the response is sent
   sends-response :
@@ -390,7 +400,8 @@ module _ (shared : Shared) (s : Start) (fair : FairStart s) where
 -- the head follows the whole exchange, in fewer than 32 calls and inputs
 pub head-follows :
     (shared : Shared) (s : Start) (d : ℕ) → FairStart s →
-    HeadFollows shared s (plus 32 d) (wholeExchange shared s) (having shared false false false [] [] [] 0)
+    HeadFollows shared s (plus 32 d) (wholeExchange shared s)
+    (having shared (noEntry shared) false [] [] none [] 0)
     (ret (freshHead s))
 unfolding freshHead newMachine «handle_input» transition «handle_pairing_request» answerBy
 head-follows shared s d fair =

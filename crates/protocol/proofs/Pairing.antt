@@ -36,7 +36,7 @@ use Rattle.protocol.specs.Ops.{aNonce, anLtk, anEdiv, aRand, replySort, 
 use Rattle.protocol.specs.Handlers.{commandOctets, namesEncryptionKey, namesIdentityKey, passKeyTk, «addr_type_flag»}
 use Rattle.protocol.specs.Step.{handleInput}
 use Rattle.protocol.specs.FairLink.{Start, AreOctets, Shared, shows, FairAnswers, QueuedPacket, Due, passKey, oobData, encryptionOn, Given, aPacket, anEvent, inputOf, payloadOf, requestOf, sentBy, hasListed, reportDue}
-use Rattle.protocol.specs.FairRuns.{typesAs, entries, bothBond, countNamed, keysNamed, keys, responseIn, responsesIn, Encryption, encryptionIn, encryptionsIn, excepted, HeadEnds, negotiated, SameBonds}
+use Rattle.protocol.specs.FairRuns.{typesAs, entries, bothBond, countNamed, keysNamed, keys, responseIn, responsesIn, ltkIn, ltksIn, Identification, identificationIn, identificationsIn, displayIn, displaysIn, Encryption, encryptionIn, encryptionsIn, excepted, HeadEnds, negotiated, HoldsKeys, SameBonds, AreAll}
 use Rattle.protocol.proofs.Exchange.{Party, opener, replier, System, Local, Protocol, Follows, Program}
 use Rattle.protocol.proofs.FairReplies.{FairData, fairly}
 
@@ -47,13 +47,16 @@ roleOf opener = Central
 roleOf replier = Peripheral
 
 -- what the claim and the link read of an end's calls: whether 0x23, 0x25 and 0x3A are among them, the encryptions that
--- were called for, the responses that were sent
+-- were called for, the responses and keys that were sent, the passkeys that were shown
 pub record Summary : Type 0 where
   pub typing : Bool
   pub oob : Bool
   pub report : Bool
   pub encryptions : List Encryption
   pub responses : List PairingFeatures
+  pub ltks : List LongTermKey
+  pub identifications : List Identification
+  pub displays : List ℕ
 
 abbrev pub summary : List Call → Summary
 summary cs =
@@ -63,7 +66,15 @@ summary cs =
       report = hasListed 0x3A cs;
       encryptions = encryptionsIn cs;
       responses = responsesIn cs;
+      ltks = ltksIn cs;
+      identifications = identificationsIn cs;
+      displays = displaysIn cs;
     }
+
+-- with what is new behind it: by clauses on that, so that it computes where the list is not known
+abbrev pub withNew : {X : Type 0} → List X → List X → List X
+withNew l [] = l
+withNew l (x ∷ new) = l ++ (x ∷ new)
 
 -- .. with one call more
 abbrev pub listed : Call → Summary → Summary
@@ -72,8 +83,11 @@ listed c x =
       typing = eqb (kindOf c) 0x23 || x .typing;
       oob = eqb (kindOf c) 0x25 || x .oob;
       report = eqb (kindOf c) 0x3A || x .report;
-      encryptions = x .encryptions ++ encryptionIn c;
-      responses = x .responses ++ responseIn c;
+      encryptions = withNew (x .encryptions) (encryptionIn c);
+      responses = withNew (x .responses) (responseIn c);
+      ltks = withNew (x .ltks) (ltkIn c);
+      identifications = withNew (x .identifications) (identificationIn c);
+      displays = withNew (x .displays) (displayIn c);
     }
 
 abbrev pub firstRaises : ℕ → Due → (before : Bool) → Call → List Due
@@ -186,12 +200,23 @@ pub record Answer (s : Start) : Type 0 where
 -- the responder's keys, as it sent them
 pub record SentKeys : Type 0 where
   pub ltk : LongTermKey
-  pub ediv : ℕ
-  pub rand : ℕ
+  pub identification : Identification
+
+abbrev pub sentKeys : LongTermKey → (ediv rand : ℕ) → SentKeys
+sentKeys ltk ediv rand = record { ltk = ltk; identification = record { ediv = ediv; rand = rand } }
 
 abbrev pub AreSent : Option SentKeys → Type 0
 AreSent none = ⊥
 AreSent (some x) = Unit {0}
+
+-- .. in the packets of an end that sent these or none
+abbrev pub sentLtks : Option SentKeys → List LongTermKey
+sentLtks none = []
+sentLtks (some x) = x .ltk ∷ []
+
+abbrev pub sentIdentifications : Option SentKeys → List Identification
+sentIdentifications none = []
+sentIdentifications (some x) = x .identification ∷ []
 
 abbrev pub queued : Packet → QueuedPacket
 queued p = record { code = commandCode (packetCommand p); payload = packetBody p }
@@ -236,7 +261,8 @@ module _ (s : Start) (a : Answer s) where
   -- a bond has the responder's LTK, cut, EDIV and Rand, if they were sent
   abbrev pub KeepsKeys : Option SentKeys → LongTermKey → (ediv rand : ℕ) → Type 0
   KeepsKeys none ltk ediv rand = Unit {0}
-  KeepsKeys (some x) ltk ediv rand = (ltk ≡ maskedOf size (x .ltk)) × (ediv ≡ x .ediv) × (rand ≡ x .rand)
+  KeepsKeys (some x) ltk ediv rand =
+      (ltk ≡ maskedOf size (x .ltk)) × (ediv ≡ x .identification .ediv) × (rand ≡ x .identification .rand)
 
   abbrev pub Keeps : Option SentKeys → BondInformation → Type 0
   Keeps x b = KeepsKeys x (b .ltk) (b .ediv) (b .rand)
@@ -252,12 +278,42 @@ module _ (s : Start) (a : Answer s) where
 -- ---- what the passkeys and OOB data fix
 
 module _ (shared : Shared) where
+  -- what an end has listed for its method: whether 0x23 and 0x25, and the passkeys that it showed, which are the shared one
+  pub record Entry : Type 0 where
+    pub typing : Bool
+    pub oob : Bool
+    pub displays : List ℕ
+    pub areShared : AreAll (shared .shown) displays
+
+  abbrev pub noEntry : Entry
+  noEntry = record { typing = false; oob = false; displays = []; areShared = tt }
+
+  abbrev pub typedEntry : Entry
+  typedEntry = record { typing = true; oob = false; displays = []; areShared = tt }
+
+  abbrev pub shownEntry : Entry
+  shownEntry = record { typing = false; oob = false; displays = shared .shown ∷ []; areShared = (refl, tt) }
+
+  abbrev pub oobEntry : Entry
+  oobEntry = record { typing = false; oob = true; displays = []; areShared = tt }
+
   -- an end's own state: what was listed, what is due, and the inputs that it got
-  abbrev pub having : (typing oob report : Bool) → List Encryption → List PairingFeatures → List Due → ℕ →
+  abbrev pub having :
+      Entry → (report : Bool) → List Encryption → List PairingFeatures → Option SentKeys → List Due → ℕ →
       Local (pairing shared)
-  having typing oob report es rs due n =
+  having entry report es rs keys due n =
       record {
-        log = record { typing = typing; oob = oob; report = report; encryptions = es; responses = rs };
+        log =
+            record {
+              typing = entry .typing;
+              oob = entry .oob;
+              report = report;
+              encryptions = es;
+              responses = rs;
+              ltks = sentLtks keys;
+              identifications = sentIdentifications keys;
+              displays = entry .displays;
+            };
         due = due;
         inputs = n;
       }
@@ -287,7 +343,9 @@ module _ (shared : Shared) (s : Start) where
       pub headEnds : HeadEnds (excepted (s .request) answer) m₁
       pub sameBonds :
           bothBond (s .request) answer ≡ true → namesEncryptionKey (answer .«responder_key_distribution») ≡ true →
-          SameBonds (negotiated (s .request) answer) m m₁
+          SameBonds (negotiated (s .request) answer) (l₁ .log .ltks) (l₁ .log .identifications) m m₁
+      pub terminalShows : AreAll (shared .shown) (l .log .displays)
+      pub headShows : AreAll (shared .shown) (l₁ .log .displays)
 
   abbrev pub PairingProtocol : Type 1
   PairingProtocol = Protocol (pairing shared) Agreed
@@ -325,6 +383,7 @@ module _ (shared : Shared) (s : Start) where
         pub inputs : l .inputs ≡ inputsOfTerminal s a
         pub ends : m .phase ≡ phase.Success
         pub stored : Stored s a x m
+        pub shows : AreAll (shared .shown) (l .log .displays)
 
     pub record HeadDone (e : Encryption) (x : Option SentKeys) (m : Machine) (l : Local (pairing shared)) : Type 0 where
       pub responds : l .log .responses ≡ a .features ∷ []
@@ -332,26 +391,32 @@ module _ (shared : Shared) (s : Start) where
       pub inputs : l .inputs ≡ inputsOfHead s a
       pub ends : HeadEnds (excepted (s .request) (a .features)) m
       pub stored : Stored s a x m
+      pub sentLtk : l .log .ltks ≡ sentLtks x
+      pub sentIdentification : l .log .identifications ≡ sentIdentifications x
+      pub shows : AreAll (shared .shown) (l .log .displays)
 
     abbrev pub Done : Encryption → Option SentKeys → Party → Machine → Local (pairing shared) → Type 0
     Done e x opener m l = TerminalDone e x m l
     Done e x replier m l = HeadDone e x m l
 
+    holds-keys :
+        (x : SentKeys) (m : Machine) → Stored s a (some x) m → HoldsKeys (size s a) (x .ltk) (x .identification) m
+    holds-keys x m t =
+        record { bond = t .0; has = t .1; cut = t .2 .0; sameEdiv = t .2 .1; sameRand = t .2 .2 }
+
     same-bonds :
-        (x : Option SentKeys) (m m₁ : Machine) → AreSent x → Stored s a x m → Stored s a x m₁ →
-        SameBonds (size s a) m m₁
-    same-bonds none m m₁ h t u = absurd h
-    same-bonds (some x) m m₁ h t u =
+        (x : Option SentKeys) (m m₁ : Machine) (ltks : List LongTermKey) (identifications : List Identification) →
+        AreSent x → Stored s a x m → Stored s a x m₁ → ltks ≡ sentLtks x →
+        identifications ≡ sentIdentifications x → SameBonds (size s a) ltks identifications m m₁
+    same-bonds none m m₁ ltks identifications h t u p q = absurd h
+    same-bonds (some x) m m₁ ltks identifications h t u p q =
         record {
-          terminalBond = t .0;
-          headBond = u .0;
-          terminalHas = t .1;
-          headHas = u .1;
-          whole = x .ltk;
-          cutAtTerminal = t .2 .0;
-          cutAtHead = u .2 .0;
-          sameEdiv = t .2 .1 ∙ sym (u .2 .1);
-          sameRand = t .2 .2 ∙ sym (u .2 .2);
+          ltk = x .ltk;
+          identification = x .identification;
+          ltkSent = p;
+          identificationSent = q;
+          terminalHolds = holds-keys x m t;
+          headHolds = holds-keys x m₁ u;
         }
 
     pub agreed :
@@ -369,7 +434,9 @@ module _ (shared : Shared) (s : Start) where
           headEncrypts = h .encrypts;
           terminalEnds = t .ends;
           headEnds = h .ends;
-          sameBonds = λ p q. same-bonds x m m₁ (due p q) (t .stored) (h .stored);
+          sameBonds = λ p q. same-bonds x m m₁ _ _ (due p q) (t .stored) (h .stored) (h .sentLtk) (h .sentIdentification);
+          terminalShows = t .shows;
+          headShows = h .shows;
         }
 
     abbrev pub ending : (e : Encryption) (x : Option SentKeys) → SentIfClaimed s a x → PairingProtocol
@@ -380,7 +447,7 @@ module _ (shared : Shared) (s : Start) where
     encryptionKey r K =
         sends r (FairData anLtk) (λ k. packet.EncryptionInformation (k .0))
         (λ k. sends r (FairData anEdiv × FairData aRand) (λ x. packet.CentralIdentification (x .0 .0) (x .1 .0))
-        (λ x. K (record { ltk = k .0; ediv = x .0 .0; rand = x .1 .0 })))
+        (λ x. K (sentKeys (k .0) (x .0 .0) (x .1 .0))))
 
     abbrev pub identityKey : Party → Bool → PairingProtocol → PairingProtocol
     identityKey r true g =

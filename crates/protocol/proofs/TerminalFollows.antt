@@ -5,7 +5,7 @@ use Prim.Native.Nat.{ℕ, suc, _+_, _*_}
 use mathlib.Core.Path.{_≡_, refl}
 use mathlib.Core.Bool.{Bool, true, false}
 use mathlib.Core.List.{[], _∷_}
-use mathlib.Core.Option.{Option, none}
+use mathlib.Core.Option.{Option, none, some}
 use native.Mathlib.Omega.{arith}
 use Rattle.octets.specs.declared.Word128.{Word128}
 use Rattle.octets.proofs.Octets.{same-refl}
@@ -45,7 +45,7 @@ use Rattle.protocol.proofs.FairReplies.{FairData}
 use Rattle.protocol.proofs.Payloads.{some-word, word-in, features-in, identification-in, address-in}
 use Rattle.protocol.proofs.Payloads.{smaller-swapped}
 use Rattle.protocol.proofs.Pairing.{pairing, plus, terminalEntries, inputsOfTerminal, Answer, SentKeys, TerminalFollows}
-use Rattle.protocol.proofs.Pairing.{having, tkOf, chosen, both, size, preq, pres, confirmOf, encryptionOf}
+use Rattle.protocol.proofs.Pairing.{sentKeys, Entry, noEntry, typedEntry, shownEntry, oobEntry, having, tkOf, chosen, both, size, preq, pres, confirmOf, encryptionOf}
 use Rattle.protocol.proofs.Pairing.{Keeps, SentIfClaimed, ending, identityKey, terminalEncryption, terminalKeys, headKeys}
 use Rattle.protocol.proofs.Pairing.{afterSrand, afterMrand, afterMconfirm, confirms, afterResponse, afterRequest}
 
@@ -113,9 +113,13 @@ module _ (shared : Shared) (s : Start) (a : Answer s) where
   same-size = smaller-swapped (a .features .«maximum_encryption_key_size») (s .request .«maximum_encryption_key_size»)
 
   -- ---- the stages with encryption on
-  module _ (typing oob : Bool) (e : Encryption) where
+  module _ (entry : Entry shared) (e : Encryption) where
+    -- .. the terminal has sent keys of its own, or none yet
+    abbrev encryptedWith : Option SentKeys → ℕ → Local (pairing shared)
+    encryptedWith keys n = having shared entry true (e ∷ []) [] keys [] n
+
     abbrev encrypted : ℕ → Local (pairing shared)
-    encrypted n = having shared typing oob true (e ∷ []) [] [] n
+    encrypted n = encryptedWith none n
 
     -- .. and no input to come
     module _
@@ -128,29 +132,35 @@ module _ (shared : Shared) (s : Start) (a : Answer s) where
       success = enters phase.Success noConfirmData atLast
 
       -- all is done
-      stays : (d : ℕ) → TerminalFollows shared s (plus 1 d) (ending shared s a e x due) (encrypted n) (ret success)
-      stays d =
-          finished (record { encrypts = refl; inputs = all; ends = refl; stored = (b, refl, k) })
+      stays :
+          (d : ℕ) (keys : Option SentKeys) →
+          TerminalFollows shared s (plus 1 d) (ending shared s a e x due) (encryptedWith keys n) (ret success)
+      stays d keys =
+          finished
+          (record { encrypts = refl; inputs = all; ends = refl; stored = (b, refl, k); shows = entry .areShared })
 
       -- Success is entered
-      succeeds : (d : ℕ) → TerminalFollows shared s (plus 3 d) (ending shared s a e x due) (encrypted n) (enter success)
+      succeeds :
+          (d : ℕ) (keys : Option SentKeys) →
+          TerminalFollows shared s (plus 3 d) (ending shared s a e x due) (encryptedWith keys n) (enter success)
       unfolding enter
-      succeeds d = go (wantBonding atLast)
+      succeeds d keys = go (wantBonding atLast)
         where
           go : (bonds : Bool) →
-              TerminalFollows shared s (plus 3 d) (ending shared s a e x due) (encrypted n) (enterBonded success b bonds)
-          go true = quiet refl λ u. quiet refl λ v. stays d
-          go false = quiet refl λ u. stays (plus 1 d)
+              TerminalFollows shared s (plus 3 d) (ending shared s a e x due) (encryptedWith keys n)
+              (enterBonded success b bonds)
+          go true = quiet refl λ u. quiet refl λ v. stays d keys
+          go false = quiet refl λ u. stays (plus 1 d) keys
 
       -- the terminal's identity key is sent, where it is named
       sends-identity :
-          (d : ℕ) (identity : Bool) →
+          (d : ℕ) (keys : Option SentKeys) (identity : Bool) →
           TerminalFollows shared s (plus 7 d) (identityKey shared s a opener identity (ending shared s a e x due))
-          (encrypted n) (bind (sendingIdentity atLast identity) entered)
+          (encryptedWith keys n) (bind (sendingIdentity atLast identity) entered)
       unfolding sendIdentityKey
-      sends-identity d true =
-          quiet refl λ irk. says irk refl λ u. quiet refl λ address. says address refl λ v. succeeds d
-      sends-identity d false = succeeds (plus 4 d)
+      sends-identity d keys true =
+          quiet refl λ irk. says irk refl λ u. quiet refl λ address. says address refl λ v. succeeds d keys
+      sends-identity d keys false = succeeds (plus 4 d) keys
 
       -- .. and before it the encryption key
       sends-keys :
@@ -161,8 +171,8 @@ module _ (shared : Shared) (s : Start) (a : Answer s) where
       unfolding sendEncryptionKey
       sends-keys d true identity =
           quiet refl λ ltk. quiet refl λ ediv. quiet refl λ rand. says ltk refl λ u. says (ediv, rand) refl λ v.
-          sends-identity d identity
-      sends-keys d false identity = sends-identity (plus 5 d) identity
+          sends-identity d (some (sentKeys (ltk .0) (ediv .0) (rand .0))) identity
+      sends-keys d false identity = sends-identity (plus 5 d) none identity
 
       -- the answer, which the terminal reads for this, names them as the request does
       sends-all-keys :
@@ -205,22 +215,22 @@ module _ (shared : Shared) (s : Start) (a : Answer s) where
         TerminalFollows shared s (plus 16 d) (afterSrand shared s a e bonds p) (encrypted n)
         (bind (awaitKeysOrSucceed (bonded b) bonds) entered)
     takes-keys-or-succeeds d n b c true p = takes-keys d n b p c encryptionNamed refl
-    takes-keys-or-succeeds d n b c false p = succeeds none _ n (rw p (omega arith)) _ b tt (plus 13 d)
+    takes-keys-or-succeeds d n b c false p = succeeds none _ n (rw p (omega arith)) _ b tt (plus 13 d) none
 
     -- the report that encryption is on
     takes-report :
         (d n : ℕ) (b : BondInformation) → n ≡ 3 + ownEntries →
         TerminalFollows shared s (plus 17 d) (afterSrand shared s a e (both s a) refl)
-        (having shared typing oob true (e ∷ []) [] (encryptionOn ∷ []) n)
+        (having shared entry true (e ∷ []) [] none (encryptionOn ∷ []) n)
         (ret (enters phase.WaitingLinkEncrypted noConfirmData (bonded b)))
     unfolding «handle_input» transition «handle_link_encrypted_success» wantBonding
     takes-report d n b c =
         urgently refl refl refl (takes-keys-or-succeeds d (suc n) b (omega arith) (both s a) refl)
 
   -- ---- the stages before
-  module _ (typing oob : Bool) where
+  module _ (entry : Entry shared) where
     abbrev unencrypted : ℕ → Local (pairing shared)
-    unencrypted n = having shared typing oob false [] [] [] n
+    unencrypted n = having shared entry false [] [] none [] n
 
     -- c1 as the terminal computes it is c1 as the protocol has it
     confirm-value : (mrand r : Nonce) → confirmValue (keyed mrand) unbonded r ≡ confirmOf shared s a r
@@ -236,7 +246,7 @@ module _ (shared : Shared) (s : Start) (a : Answer s) where
     takes-srand d n mrand srand c =
         takes λ u. rw (word-in (srand .0 .0) (srand .1), confirm-value mrand (srand .0), same-refl, same-size)
         (quiet refl λ b.
-        takes-report typing oob (encryptionOf shared s a mrand (srand .0)) d (suc n) b (omega arith))
+        takes-report entry (encryptionOf shared s a mrand (srand .0)) d (suc n) b (omega arith))
 
     -- Sconfirm is answered by Mrand
     takes-sconfirm :
@@ -259,22 +269,24 @@ module _ (shared : Shared) (s : Start) (a : Answer s) where
   -- the method that was chosen begins: passkey and OOB data are entries
   begins-method :
       (d : ℕ) (way : PairingMethod) → chosen s a ≡ way →
-      TerminalFollows shared s (plus 25 d) (afterResponse shared s a way) (having shared false false false [] [] [] 1)
+      TerminalFollows shared s (plus 25 d) (afterResponse shared s a way)
+      (having shared (noEntry shared) false [] [] none [] 1)
       (bind (beginMethod (preq s a) (pres s a) unbonded way) entered)
   unfolding beginMethod enter «handle_input» transition «handle_pass_key_input» beginConfirm
-  begins-method d method.JustWorks e = sends-mconfirm false false (plus 2 d) 1 _ (rw e) (rw e)
+  begins-method d method.JustWorks e = sends-mconfirm (noEntry shared) (plus 2 d) 1 _ (rw e) (rw e)
   begins-method d method.NumericComparison e = absurd (never-numeric (s .request) (a .features) e)
   begins-method d (method.PassKeyEntry action.Display peripheral) e =
-      quiet refl λ u. quiet refl λ v. sends-mconfirm false false d 1 _ (rw e) (rw e)
+      quiet refl λ u. quiet refl λ v. sends-mconfirm (shownEntry shared) d 1 _ (rw e) (rw e)
   begins-method d (method.PassKeyEntry action.Input peripheral) e =
-      quiet refl λ u. owing refl refl refl (sends-mconfirm true false d 2 _ (rw e) (rw e))
+      quiet refl λ u. owing refl refl refl (sends-mconfirm (typedEntry shared) d 2 _ (rw e) (rw e))
   begins-method d method.OutOfBand e =
-      quiet refl λ u. behind refl refl (sends-mconfirm false true d 2 _ (rw e) (rw e))
+      quiet refl λ u. behind refl refl (sends-mconfirm (oobEntry shared) d 2 _ (rw e) (rw e))
 
 -- ---- from the request on, with the response first
 pub terminal-follows :
     (shared : Shared) (s : Start) (d : ℕ) →
-    TerminalFollows shared s (plus 26 d) (afterRequest shared s) (having shared false false false [] [] [] 0)
+    TerminalFollows shared s (plus 26 d) (afterRequest shared s)
+    (having shared (noEntry shared) false [] [] none [] 0)
     (ret (freshTerminal s))
 unfolding freshTerminal lescSwitch «handle_input» transition «handle_pairing_response»
 terminal-follows shared s d =

@@ -22,19 +22,23 @@ use Rattle.bond.specs.declared.OptionBond.the-variants as option
 use Rattle.host.specs.Calls.{longest}
 use Rattle.host.specs.declared.call.Call.{Call}
 use Rattle.host.specs.declared.call.Call.the-variants as call
+use Rattle.host.specs.declared.call.ConnectionEvent.{ConnectionEvent}
+use Rattle.host.specs.declared.call.ConnectionEvent.the-variants as notice
+use Rattle.host.specs.declared.call.Packet.{Packet}
 use Rattle.host.specs.declared.call.Packet.the-variants as packet
 use Rattle.machine.specs.Machine.{wishes, resultOf}
 use Rattle.machine.specs.declared.Input.the-variants as input
 use Rattle.machine.specs.declared.Machine.{Machine}
 use Rattle.machine.specs.declared.PairingResult.the-variants as result
 use Rattle.machine.specs.declared.Phase.the-variants as phase
+use Rattle.machine.specs.declared.Role.{Role}
 use Rattle.machine.specs.declared.Role.the-variants.{Peripheral}
 use Rattle.protocol.specs.declared.Outcome.{Outcome}
 use Rattle.protocol.specs.declared.Outcome.the-variants as outcome
 use Rattle.protocol.specs.declared.Stepped.{Stepped}
 use Rattle.protocol.specs.Handlers.{namesEncryptionKey, namesIdentityKey, smaller}
 use Rattle.protocol.specs.Step.{step}
-use Rattle.protocol.specs.FairLink.{Start, FairStart, Shared, Link, freshLink, ofAll, MoveKind, Move, outcomeOf, Moves, Run, Idle}
+use Rattle.protocol.specs.FairLink.{Start, FairStart, Shared, Link, endOf, freshLink, ofAll, MoveKind, Move, outcomeOf, Moves, Run, Idle}
 
 -- ---- entries: 1 where the method has one end type, 2 where it has both type or is OOB, else 0
 
@@ -68,24 +72,90 @@ keysNamed answer =
 abbrev pub keys : PairingFeatures → PairingFeatures → ℕ
 keys request answer = cond (bothBond request answer) (keysNamed answer) 0
 
--- the answer is the response sent: the responses among an end's calls
+-- ---- what an end's calls say
+
+-- what f reads of the packet that a call sends
+abbrev pub ofPacket : {X : Type 0} → (Packet → List X) → Call → List X
+ofPacket f (call.SendPacket p) = f p
+ofPacket f (call.SendConnectionEvent e) = []
+ofPacket f (call.Ask q) = []
+ofPacket f (call.Draw d) = []
+ofPacket f (call.EnableEncryption k l n) = []
+ofPacket f call.EnableBondedEncryption = []
+ofPacket f (call.UpdateBondInformation b) = []
+
+-- the answer is the response sent, packet 0x02
+abbrev pub responseOf : Packet → List PairingFeatures
+responseOf (packet.PairingResponse f) = f ∷ []
+responseOf (packet.PairingConfirm c) = []
+responseOf (packet.PairingRandom n) = []
+responseOf (packet.EncryptionInformation k) = []
+responseOf (packet.CentralIdentification e r) = []
+responseOf (packet.IdentityInformation k) = []
+responseOf (packet.IdentityAddressInformation a) = []
+
 abbrev pub responseIn : Call → List PairingFeatures
-responseIn (call.SendPacket (packet.PairingResponse f)) = f ∷ []
-responseIn (call.SendPacket (packet.PairingConfirm c)) = []
-responseIn (call.SendPacket (packet.PairingRandom n)) = []
-responseIn (call.SendPacket (packet.EncryptionInformation k)) = []
-responseIn (call.SendPacket (packet.CentralIdentification e r)) = []
-responseIn (call.SendPacket (packet.IdentityInformation k)) = []
-responseIn (call.SendPacket (packet.IdentityAddressInformation a)) = []
-responseIn (call.SendConnectionEvent e) = []
-responseIn (call.Ask q) = []
-responseIn (call.Draw d) = []
-responseIn (call.EnableEncryption k l n) = []
-responseIn call.EnableBondedEncryption = []
-responseIn (call.UpdateBondInformation b) = []
+responseIn c = ofPacket responseOf c
 
 abbrev pub responsesIn : List Call → List PairingFeatures
 responsesIn cs = ofAll responseIn cs
+
+-- an LTK on the air, packet 0x06
+abbrev pub ltkOf : Packet → List LongTermKey
+ltkOf (packet.PairingResponse f) = []
+ltkOf (packet.PairingConfirm c) = []
+ltkOf (packet.PairingRandom n) = []
+ltkOf (packet.EncryptionInformation k) = k ∷ []
+ltkOf (packet.CentralIdentification e r) = []
+ltkOf (packet.IdentityInformation k) = []
+ltkOf (packet.IdentityAddressInformation a) = []
+
+abbrev pub ltkIn : Call → List LongTermKey
+ltkIn c = ofPacket ltkOf c
+
+abbrev pub ltksIn : List Call → List LongTermKey
+ltksIn cs = ofAll ltkIn cs
+
+-- EDIV and Rand on the air, packet 0x07
+pub record Identification : Type 0 where
+  pub ediv : ℕ
+  pub rand : ℕ
+
+abbrev pub identificationOf : Packet → List Identification
+identificationOf (packet.PairingResponse f) = []
+identificationOf (packet.PairingConfirm c) = []
+identificationOf (packet.PairingRandom n) = []
+identificationOf (packet.EncryptionInformation k) = []
+identificationOf (packet.CentralIdentification e r) = record { ediv = e; rand = r } ∷ []
+identificationOf (packet.IdentityInformation k) = []
+identificationOf (packet.IdentityAddressInformation a) = []
+
+abbrev pub identificationIn : Call → List Identification
+identificationIn c = ofPacket identificationOf c
+
+abbrev pub identificationsIn : List Call → List Identification
+identificationsIn cs = ofAll identificationIn cs
+
+-- a passkey shown, event 0x22
+abbrev pub displayOf : ConnectionEvent → List ℕ
+displayOf (notice.PairingFailed e) = []
+displayOf (notice.PairingComplete l b) = []
+displayOf (notice.PassKeyDisplay k) = k .0 ∷ []
+displayOf notice.PassKeyInput = []
+displayOf notice.BondLost = []
+displayOf notice.OobRequest = []
+
+abbrev pub displayIn : Call → List ℕ
+displayIn (call.SendPacket p) = []
+displayIn (call.SendConnectionEvent e) = displayOf e
+displayIn (call.Ask q) = []
+displayIn (call.Draw d) = []
+displayIn (call.EnableEncryption k l n) = []
+displayIn call.EnableBondedEncryption = []
+displayIn (call.UpdateBondInformation b) = []
+
+abbrev pub displaysIn : List Call → List ℕ
+displaysIn cs = ofAll displayIn cs
 
 -- ---- calling for encryption is call 0x3A, key and level being those of its body
 
@@ -135,17 +205,29 @@ HeadEnds false m = m .phase ≡ phase.Success
 abbrev pub negotiated : PairingFeatures → PairingFeatures → ℕ
 negotiated request answer = smaller (request .«maximum_encryption_key_size») (answer .«maximum_encryption_key_size»)
 
--- both bonds hold the same LTK, cut to the negotiated size, EDIV and Rand
-pub record SameBonds (size : ℕ) (terminal head : Machine) : Type 0 where
-  pub terminalBond : BondInformation
-  pub headBond : BondInformation
-  pub terminalHas : terminal .«pairing_data» .«bond_information» ≡ option.Some terminalBond
-  pub headHas : head .«pairing_data» .«bond_information» ≡ option.Some headBond
-  pub whole : LongTermKey
-  pub cutAtTerminal : terminalBond .ltk ≡ maskedOf size whole
-  pub cutAtHead : headBond .ltk ≡ maskedOf size whole
-  pub sameEdiv : terminalBond .ediv ≡ headBond .ediv
-  pub sameRand : terminalBond .rand ≡ headBond .rand
+-- a machine's bond holds this LTK, cut to the negotiated size, and this EDIV and Rand
+pub record HoldsKeys (size : ℕ) (ltk : LongTermKey) (identification : Identification) (m : Machine) : Type 0 where
+  pub bond : BondInformation
+  pub has : m .«pairing_data» .«bond_information» ≡ option.Some bond
+  pub cut : bond .ltk ≡ maskedOf size ltk
+  pub sameEdiv : bond .ediv ≡ identification .ediv
+  pub sameRand : bond .rand ≡ identification .rand
+
+-- one LTK was sent, and one EDIV and Rand, and both bonds hold them
+pub record SameBonds
+    (size : ℕ) (ltks : List LongTermKey) (identifications : List Identification) (terminal head : Machine) : Type 0
+  where
+    pub ltk : LongTermKey
+    pub identification : Identification
+    pub ltkSent : ltks ≡ ltk ∷ []
+    pub identificationSent : identifications ≡ identification ∷ []
+    pub terminalHolds : HoldsKeys size ltk identification terminal
+    pub headHolds : HoldsKeys size ltk identification head
+
+-- all of these are this number
+abbrev pub AreAll : ℕ → List ℕ → Type 0
+AreAll n [] = Unit {0}
+AreAll n (x ∷ l) = (x ≡ n) × AreAll n l
 
 -- ---- the claim
 
@@ -167,10 +249,11 @@ pub record RunEnds (request : PairingFeatures) (inputs : ℕ) (L : Link) : Type 
   -- the identity key
   pub terminalEnds : L .terminal .machine .phase ≡ phase.Success
   pub headEnds : HeadEnds (excepted request answer) (L .head .machine)
-  -- if both bond and the answer names the responder's encryption key, both bonds hold the same keys
+  -- if both bond and the answer names the responder's encryption key, both bonds hold the keys that the head sent
   pub sameBonds :
       bothBond request answer ≡ true → namesEncryptionKey (answer .«responder_key_distribution») ≡ true →
-      SameBonds (negotiated request answer) (L .terminal .machine) (L .head .machine)
+      SameBonds (negotiated request answer) (ltksIn (L .head .calls)) (identificationsIn (L .head .calls))
+      (L .terminal .machine) (L .head .machine)
 
 abbrev pub NotRefused : Outcome → Type 0
 NotRefused outcome.Ended = Unit {0}
@@ -192,6 +275,10 @@ pub record RunsEnd (s : Start) (bound : ℕ) (shared : Shared) : Type 0 where
       (k : MoveKind) (L₁ : Link) (x : Move shared L k L₁) → NotRefused (outcomeOf x)
   -- inputs, the moves of the first kind, are at most 18 in any list of moves
   pub fewInputs : (moves inputs : ℕ) (L : Link) → Moves shared (freshLink s) moves inputs L → inputs ≤ 18
+  -- any passkey shown, at either end, is the shared one, to which those typed are equal
+  pub shows :
+      (moves inputs : ℕ) (L : Link) → Moves shared (freshLink s) moves inputs L →
+      (r : Role) → AreAll (shared .shown) (displaysIn (endOf r L .calls))
   -- what every run comes to
   pub comesTo :
       (moves inputs : ℕ) (L : Link) → Run shared (freshLink s) moves inputs L → RunEnds (s .request) inputs L
