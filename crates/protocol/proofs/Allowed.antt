@@ -7,13 +7,15 @@ use mathlib.Core.List.{List, [], _∷_}
 use mathlib.Core.Option.{none}
 use Prim.Native.Nat.{ℕ, _≤_}
 use lib.Dec.{lit≤}
+use native.Mathlib.Omega.{arith}
 use Rattle.octets.specs.declared.Word128.{Word128}
 use Rattle.crypto.specs.declared.crypto.IdentityResolvingKey.{IdentityResolvingKey}
 use Rattle.crypto.specs.declared.crypto.LongTermKey.{LongTermKey}
 use Rattle.crypto.specs.declared.crypto.Nonce.{Nonce}
-use Rattle.types.specs.Types.{featuresWith}
+use Rattle.types.specs.Types.{featuresWith, leastKeySize, largestKeySize}
 use Rattle.types.specs.declared.capabilities.IoCapabilities.the-variants.{KeyboardOnly, KeyboardDisplay}
 use Rattle.types.specs.declared.types.UseOutOfBand.the-variants.{NotPresent, Present}
+use Rattle.util.specs.Method.{«BOTH_INPUT»}
 use Rattle.bond.specs.declared.Address.{Address}
 use Rattle.bond.specs.declared.BondInformation.{BondInformation}
 use Rattle.bond.specs.declared.OptionBond.{OptionBond}
@@ -21,6 +23,8 @@ use Rattle.answer.specs.Answers.{passKeyMax}
 use Rattle.answer.specs.declared.AddressResult.the-variants as address-result
 use Rattle.answer.specs.declared.BondResult.the-variants as bond-result
 use Rattle.answer.specs.declared.OptionBondResult.the-variants as option-result
+use Rattle.machine.specs.declared.Event.the-variants as event
+use Rattle.machine.specs.declared.Input.the-variants as input
 use Rattle.machine.specs.declared.Machine.{Machine}
 use Rattle.machine.specs.declared.Role.{Role}
 use Rattle.machine.specs.declared.Role.the-variants.{Central, Peripheral}
@@ -32,33 +36,50 @@ use Rattle.protocol.proofs.Replies.{reply-at-end}
 
 -- ---- starts
 
--- records that name every key, with the smallest and the largest key size
-abbrev fullStart : Address → Address → Start
-fullStart a b =
+-- records that name every key, with these key sizes
+abbrev fullStart : (requestSize headSize : ℕ) → Address → Address → Start
+fullStart requestSize headSize a b =
     record {
-      request = featuresWith (4 ∷ 1 ∷ 0xFF ∷ 7 ∷ 0xFF ∷ 0xFF ∷ []) KeyboardDisplay Present 7;
-      headFeatures = featuresWith (2 ∷ 0 ∷ 0xFF ∷ 16 ∷ 0xFF ∷ 0xFF ∷ []) KeyboardOnly NotPresent 16;
+      request = featuresWith (4 ∷ 1 ∷ 0xFF ∷ requestSize ∷ 0xFF ∷ 0xFF ∷ []) KeyboardDisplay Present requestSize;
+      headFeatures = featuresWith (2 ∷ 0 ∷ 0xFF ∷ headSize ∷ 0xFF ∷ 0xFF ∷ []) KeyboardOnly NotPresent headSize;
       terminalAddress = a;
       headAddress = b;
     }
 
-pub full-start : (a b : Address) → FairStart (fullStart a b)
-full-start a b =
+-- each size may be any from 7 to 16
+fair-of-sizes :
+    (requestSize headSize : ℕ) (a b : Address) → leastKeySize ≤ requestSize → requestSize ≤ largestKeySize →
+    leastKeySize ≤ headSize → headSize ≤ largestKeySize → FairStart (fullStart requestSize headSize a b)
+fair-of-sizes requestSize headSize a b l h l₁ h₁ =
     record {
-      requestOctets = (lit≤ tt, (lit≤ tt, (lit≤ tt, (lit≤ tt, (lit≤ tt, (lit≤ tt, tt))))));
-      headOctets = (lit≤ tt, (lit≤ tt, (lit≤ tt, (lit≤ tt, (lit≤ tt, (lit≤ tt, tt))))));
-      requestSizeLeast = lit≤ tt;
-      requestSizeLargest = lit≤ tt;
-      headSizeLeast = lit≤ tt;
-      headSizeLargest = lit≤ tt;
+      requestOctets = (lit≤ tt, (lit≤ tt, (lit≤ tt, (omega arith, (lit≤ tt, (lit≤ tt, tt))))));
+      headOctets = (lit≤ tt, (lit≤ tt, (lit≤ tt, (omega arith, (lit≤ tt, (lit≤ tt, tt))))));
+      requestSizeLeast = l;
+      requestSizeLargest = h;
+      headSizeLeast = l₁;
+      headSizeLargest = h₁;
       headFlags = record { encryption = λ h. refl; identity = λ h. refl };
     }
+
+-- the smallest size at the terminal and the largest at the head ..
+pub full-start : (a b : Address) → FairStart (fullStart 7 16 a b)
+full-start a b = fair-of-sizes 7 16 a b (lit≤ tt) (lit≤ tt) (lit≤ tt) (lit≤ tt)
+
+-- .. and exchanged
+pub exchanged-start : (a b : Address) → FairStart (fullStart 16 7 a b)
+exchanged-start a b = fair-of-sizes 16 7 a b (lit≤ tt) (lit≤ tt) (lit≤ tt) (lit≤ tt)
 
 -- ---- passkeys and OOB data
 
 -- whatever is typed or received, and whatever may be shown
 pub any-shared : (oob : Word128) (shown typed : ℕ) → shown ≤ passKeyMax → Shared
 any-shared oob shown typed most = record { oob = oob; shown = shown; typed = typed; shownMost = most }
+
+-- where both type, what is typed is free: any number
+pub typed-where-both-type :
+    (shared : Shared) (m : Machine) → m .«pairing_data» .«pairing_method» ≡ «BOTH_INPUT» →
+    inputOf shared m (anEvent passKey) ≡ input.Event (event.PassKeyInput (shared .typed))
+typed-where-both-type shared m e = rw e refl
 
 -- ---- hosts
 

@@ -36,7 +36,7 @@ use Rattle.protocol.specs.LegacyCentral as central
 use Rattle.protocol.specs.LegacyPeripheral as peripheral
 use Rattle.protocol.proofs.Awaited.{transitionOf, same-ways, not-awaited}
 
-abbrev standing : Phase → ConfirmPhaseData → PairingData → Machine
+abbrev pub standing : Phase → ConfirmPhaseData → PairingData → Machine
 standing p c d = record { phase = p; «confirm_data» = c; «pairing_data» = d }
 
 abbrev received : Command → Input

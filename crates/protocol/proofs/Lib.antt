@@ -16,6 +16,8 @@ pub mod FirstMove
 pub mod Exchange
 pub mod InStep
 pub mod Payloads
+pub mod Response
+pub mod NotClaimed
 pub mod FairReplies
 pub mod Pairing
 pub mod FairSides

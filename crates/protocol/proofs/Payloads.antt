@@ -2,7 +2,7 @@
 -- answer. Assumes nothing.
 use Prim.Native.Nat.{ℕ, _≤_, _<_}
 use mathlib.Core.Path.{_≡_, refl, sym, ap, _∙_}
-use mathlib.Core.Bool.{Bool, true, false, cond}
+use mathlib.Core.Bool.{Bool, true, false, cond, _||_, or-true, or-false}
 use mathlib.Core.Option.{some}
 use mathlib.Core.List.{_∷_, _++_}
 use native.Mathlib.Decide.{decLt}
@@ -64,8 +64,13 @@ key-named i f false h = go (flag i (f .0)) h
     go true h = sym (h refl)
     go false h = refl
 
+-- a key that is added where b is named then too
+pub key-added : (i : ℕ) (f : KeyDistributionFlags) (b : Bool) → flag i (addKey i f b .0) ≡ (flag i (f .0) || b)
+key-added i f true = flag-set i (f .0) ∙ sym (or-true (flag i (f .0)))
+key-added i f false = sym (or-false (flag i (f .0)))
+
 -- another key is named as before
-key-kept : (i j : ℕ) (f : KeyDistributionFlags) (b : Bool) → (j ≡ i → ⊥)
+pub key-kept : (i j : ℕ) (f : KeyDistributionFlags) (b : Bool) → (j ≡ i → ⊥)
     → flag j (addKey i f b .0) ≡ flag j (f .0)
 key-kept i j f true h = flag-kept i j (f .0) h
 key-kept i j f false h = refl

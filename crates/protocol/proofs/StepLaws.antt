@@ -189,6 +189,13 @@ pub record StepEnded (r : Role) (m : Machine) (i : Input) (payload answers list 
   pub octets :
       step r m i payload answers list .list ≡ writeAt list 0 (callsOctets (playOf r m i payload answers .calls))
 
+-- a step that is refused: the machine given, counts 0, the list untouched
+pub record StepRefused (r : Role) (m : Machine) (i : Input) (payload answers list : List ℕ) : Type 0 where
+  pub machine : step r m i payload answers list .stepped .machine ≡ m
+  pub none-read : step r m i payload answers list .stepped .read ≡ 0
+  pub none-written : step r m i payload answers list .stepped .written ≡ 0
+  pub untouched : step r m i payload answers list .list ≡ list
+
 module _ (r : Role) (m : Machine) (i : Input) (payload answers list : List ℕ) where
   pub step-wants : step r m i payload answers list .stepped .outcome ≡ outcome.Wants
       → StepWants r m i payload answers list
@@ -234,6 +241,17 @@ module _ (r : Role) (m : Machine) (i : Input) (payload answers list : List ℕ) 
   step-refused n h =
       let x = playOf r m i payload answers in
       made-refused m list x n (ltb (length list) longest) (isKnown i) (x .ending) (subst (IsRefusedBy n) (sym h) refl)
+
+  pub refused-numbers : (n : ℕ) → step r m i payload answers list .stepped .outcome ≡ outcome.Refused n
+      → StepRefused r m i payload answers list
+  refused-numbers n h =
+      let e = step-refused n h in
+      record {
+        machine = ap (λ x. x .stepped .machine) e;
+        none-read = ap (λ x. x .stepped .read) e;
+        none-written = ap (λ x. x .stepped .written) e;
+        untouched = ap (λ x. x .list) e;
+      }
 
   -- before all else a list that is too short is refused, by 1
   pub refused-short : length list < longest → step r m i payload answers list ≡ refusedBy 1 m list
@@ -309,3 +327,21 @@ module _ (r : Role) (m : Machine) (i : Input) (payload answers list : List ℕ) 
         ap callsOctets (a .1) ∙ callsOctets-append (playOf r m i payload answers .calls) (a .0),
         rw (read-place r m i payload (answers ++ more) list ok, read-is) (again-further replyAt reads answers more p 0),
       )
+
+-- ---- what a step gives back beside its list is the same on any list that is long enough
+
+module _ (m : Machine) (x : Played Call Machine) (a b : List ℕ) where
+  made-same : (known : Bool) (e : Ending Machine)
+      → made m a x false known e .stepped ≡ made m b x false known e .stepped
+  made-same true (ended m₁) = refl
+  made-same true wanting = refl
+  made-same true refusing = refl
+  made-same false e = refl
+
+pub step-on-any-list :
+    (r : Role) (m : Machine) (i : Input) (payload answers a b : List ℕ) → longest ≤ length a → longest ≤ length b →
+    step r m i payload answers a .stepped ≡ step r m i payload answers b .stepped
+unfolding step
+step-on-any-list r m i payload answers a b h k =
+    let x = playOf r m i payload answers in
+    rw (le-ltb (length a) longest h, le-ltb (length b) longest k) (made-same m x a b (isKnown i) (x .ending))
