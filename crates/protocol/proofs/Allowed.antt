@@ -72,7 +72,7 @@ exchanged-start a b = fair-of-sizes 16 7 a b (lit≤ tt) (lit≤ tt) (lit≤ tt)
 -- ---- passkeys and OOB data
 
 -- whatever is typed or received, and whatever may be shown
-pub any-shared : (oob : Word128) (shown typed : ℕ) → shown ≤ passKeyMax → Shared
+abbrev pub any-shared : (oob : Word128) (shown typed : ℕ) → shown ≤ passKeyMax → Shared
 any-shared oob shown typed most = record { oob = oob; shown = shown; typed = typed; shownMost = most }
 
 -- where both type, what is typed is free: any number

@@ -3,7 +3,7 @@
 use Prim.Native.Nat.{ℕ, suc, _+_, _*_}
 use mathlib.Core.Path.{_≡_, refl, sym, ap, _∙_, subst}
 use mathlib.Core.Bool.{Bool, true, false, cond, not, _&&_, and-eq-true-iff}
-use mathlib.Core.List.{List, [], _∷_, _++_, append-nil, append-assoc}
+use mathlib.Core.List.{List, [], _∷_, _++_}
 use native.Mathlib.Omega.{arith}
 use lib.Dec.{ltb, lit≤}
 use lib.ListN.{replicate}
@@ -20,13 +20,14 @@ use Rattle.bond.specs.declared.Address.{Address}
 use Rattle.host.specs.declared.call.Call.{Call}
 use Rattle.machine.specs.declared.Phase.the-variants as phase
 use Rattle.machine.specs.declared.Role.the-variants.{Central, Peripheral}
-use Rattle.machine.specs.Machine.{newMachine}
-use Rattle.answer.specs.Answers.{bodyAt, verdictAt, flagAt, irkAt}
-use Rattle.protocol.specs.Handlers.{featuresIn}
-use Rattle.protocol.specs.LegacyPeripheral.{initiatorKeys, responderKeys, responseFeatures, «handle_pairing_request», transition, «handle_input»}
+use Rattle.machine.specs.Machine.{newMachine, lescSwitch}
+use Rattle.answer.specs.Answers.{bodyAt, verdictAt, flagAt, irkAt, passKeyAt}
+use Rattle.protocol.specs.Handlers.{featuresIn, enter}
+use Rattle.protocol.specs.LegacyCentral as central
+use Rattle.protocol.specs.LegacyPeripheral.{initiatorKeys, responderKeys, responseFeatures, beginMethod, «handle_pairing_request», transition, «handle_input»}
 use Rattle.protocol.specs.Step.{playOf, step}
-use Rattle.protocol.specs.FairLink.{Start, AreOctets, NamesNoMore, FairStart, Shared, Link, freshHead, requestOf, freshLink, stepAt, callsAt, anInput, Move, takePacket, takeEvent, runAgain, Moves, noMove, move, Run}
-use Rattle.protocol.specs.FairRuns.{entries, keys, responseIn, responsesIn, WaitsForIdentityKey}
+use Rattle.protocol.specs.FairLink.{Start, AreOctets, NamesNoMore, FairStart, Shared, Link, freshTerminal, freshHead, requestOf, freshLink, stepAt, callsAt, anInput, Move, takePacket, noMove, move, Run}
+use Rattle.protocol.specs.FairRuns.{entries, keys, responseIn, responsesIn, displaysIn, WaitsForIdentityKey}
 use Rattle.protocol.proofs.Allowed.{any-shared}
 use Rattle.protocol.proofs.FairSides.{of-all-append}
 use Rattle.protocol.proofs.FairRunsEnd.{calls-grow, every-fair-run-ends}
@@ -220,3 +221,55 @@ pub head-left-waiting :
     × Run someShared (freshLink (startOf terminalAt headAt namingIdentity plain)) moves inputs L
     × (L .terminal .machine .phase ≡ phase.Success) × WaitsForIdentityKey (L .head .machine)
 head-left-waiting = left-waiting-of someShared terminalAt headAt
+
+-- ---- passkeys that are shown, at the head and at the terminal: the shared number
+
+-- a keyboard, and a display, each with protection against a man in the middle
+abbrev keyboard : PairingFeatures
+keyboard = featuresWith (2 ∷ 0 ∷ 4 ∷ 16 ∷ 0 ∷ 0 ∷ []) io.KeyboardOnly NotPresent 16
+
+abbrev display : PairingFeatures
+display = featuresWith (0 ∷ 0 ∷ 4 ∷ 16 ∷ 0 ∷ 0 ∷ []) io.DisplayOnly NotPresent 16
+
+-- the head's host: no bond found, no bonding, no OOB data, and the response is sent
+abbrev plainHost : List ℕ
+plainHost = 0x30 ∷ 0 ∷ 0x33 ∷ 0 ∷ 0x34 ∷ 0 ∷ 0x02 ∷ 0 ∷ []
+
+-- 123456 is drawn; 0x22 is then listed, and its verdict wanted
+abbrev drawn : List ℕ
+drawn = 0x36 ∷ 0x40 ∷ 0xE2 ∷ 0x01 ∷ 0x00 ∷ []
+
+pub shown-by-the-head :
+    (L : Link) × Move someShared (freshLink (startOf terminalAt headAt keyboard display)) anInput L
+    × (displaysIn (L .head .calls) ≡ someShared .shown ∷ [])
+unfolding freshLink freshHead newMachine stepAt callsAt step playOf «handle_input» transition «handle_pairing_request»
+    beginMethod featuresIn responseFeatures initiatorKeys responderKeys legacyMethod bodyAt flagAt verdictAt passKeyAt
+    featuresOf
+shown-by-the-head = (
+  _,
+  takePacket Peripheral (requestOf (startOf terminalAt headAt keyboard display)) [] (plainHost ++ drawn) refl refl refl
+      (record { octets = are-octets (plainHost ++ drawn) refl; fair = (tt, (tt, (tt, (refl, (refl, tt))))) }),
+  refl,
+)
+
+-- the head types: its first step sends the response and asks for the passkey
+abbrev typingHost : List ℕ
+typingHost = plainHost ++ (0x23 ∷ 0 ∷ [])
+
+pub shown-by-the-terminal :
+    (L L₁ : Link) × Move someShared (freshLink (startOf terminalAt headAt display keyboard)) anInput L
+    × Move someShared L anInput L₁
+    × (displaysIn (L₁ .terminal .calls) ≡ someShared .shown ∷ [])
+unfolding freshLink freshHead freshTerminal lescSwitch newMachine stepAt callsAt step playOf «handle_input» transition
+    «handle_pairing_request» beginMethod featuresIn responseFeatures initiatorKeys responderKeys legacyMethod bodyAt
+    flagAt verdictAt passKeyAt featuresOf enter central.«handle_input» central.transition
+    central.«handle_pairing_response» central.beginMethod
+shown-by-the-terminal = (
+  _,
+  _,
+  takePacket Peripheral (requestOf (startOf terminalAt headAt display keyboard)) [] typingHost refl refl refl
+      (record { octets = are-octets typingHost refl; fair = (tt, (tt, (tt, (refl, (refl, tt))))) }),
+  takePacket Central (record { code = 0x02; payload = featureOctets keyboard }) [] drawn refl refl refl
+      (record { octets = are-octets drawn refl; fair = (refl, tt) }),
+  refl,
+)

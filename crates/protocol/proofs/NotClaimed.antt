@@ -1,8 +1,8 @@
 -- What demand 3 does not speak of, or speaks of in words that both ends share: laws of the definitions, each with an
 -- edit that it refuses. (The answer's flags: Response. Where both type: Allowed.) Assumes nothing.
 use Prim.Native.Nat.{ℕ, _≤_, _<_}
-use mathlib.Core.Path.{_≡_, refl}
-use mathlib.Core.Bool.{Bool, true, false}
+use mathlib.Core.Path.{_≡_, refl, ap}
+use mathlib.Core.Bool.{Bool, true, false, cond}
 use mathlib.Core.List.{List}
 use mathlib.Core.Logic.{_⊎_, inl, inr}
 use native.Mathlib.Decide.{decLt}
@@ -48,11 +48,11 @@ passkey-is-tk n = (refl, refl)
 -- in c1, address kind 0 is 0, and any other counts as 1
 pub kind-public : (a : Address) → a .kind ≡ 0 → «addr_type_flag» a ≡ 0
 unfolding addressType
-kind-public a h = rw (eq-eqb (a .kind) 0 h) refl
+kind-public a h = ap (λ b. cond b 0 1) (eq-eqb (a .kind) 0 h)
 
 pub kind-other : (a : Address) → (a .kind ≡ 0 → ⊥) → «addr_type_flag» a ≡ 1
 unfolding addressType
-kind-other a h = rw (ne-eqb (a .kind) 0 h) refl
+kind-other a h = ap (λ b. cond b 0 1) (ne-eqb (a .kind) 0 h)
 
 -- ---- verdicts: 0 done, 1 out of memory, others a host error with that octet
 
