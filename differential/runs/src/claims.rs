@@ -46,8 +46,10 @@ pub enum Claim {
     TerminalEnds,
     /// The head stands in Success, or in the excepted case waits for the identity key.
     HeadEnds,
-    /// Both bonds hold the same LTK, cut to the negotiated size, EDIV and Rand.
+    /// Both bonds hold the LTK that the head sent, cut to the negotiated size, and its EDIV and Rand.
     SameBonds,
+    /// Any passkey shown, at either end, is the shared one.
+    Shown,
 }
 
 #[derive(Default)]
@@ -89,6 +91,7 @@ pub fn check(run: &Run) -> Result<Facts, Violations> {
         });
     }
     encryption(&played, &mut found);
+    shown(run, &played, &mut found);
     let terminal = &played.ends[0].machine;
     found.unless(terminal[machine::PHASE] == 9, Claim::TerminalEnds, || standing("terminal", terminal));
     let facts = with_answer(run, &played, &mut found);
@@ -112,6 +115,17 @@ fn encryption(played: &Played, found: &mut Violations) {
     if let (Some(a), Some(b)) = (terminal.first(), head.first()) {
         found.unless(a[..16] == b[..16], Claim::SameKey, || "the keys differ".into());
         found.unless(a[16] == b[16], Claim::SameLevel, || format!("levels {} and {}", a[16], b[16]));
+    }
+}
+
+/// Event 0x22 at either end: the passkey that is drawn and typed.
+fn shown(run: &Run, played: &Played, found: &mut Violations) {
+    for (end, name) in played.ends.iter().zip(["terminal", "head"]) {
+        for body in end.bodies(0x22) {
+            found.unless(body == run.shared.shown.to_le_bytes(), Claim::Shown, || {
+                format!("the {name} shows {body:02x?}, and {} is shared", run.shared.shown)
+            });
+        }
     }
 }
 
@@ -140,7 +154,7 @@ fn with_answer(run: &Run, played: &Played, found: &mut Violations) -> Option<Fac
     head_ends(run, &played.ends[1].machine, excepted, found);
     if both_bond && answer[5] & 1 == 1 {
         let size = usize::from(request[3].min(answer[3]));
-        same_bonds(size, &played.ends[0].machine, &played.ends[1].machine, found);
+        same_bonds(size, played, found);
     }
     let keys = [0, 1].map(|at: usize| sent_keys(played, at));
     Some(Facts { method, both_bond, excepted, inputs: played.inputs, keys })
@@ -171,15 +185,18 @@ fn head_ends(run: &Run, head: &Record, excepted: bool, found: &mut Violations) {
     });
 }
 
-fn same_bonds(size: usize, terminal: &Record, head: &Record, found: &mut Violations) {
+/// The head has sent one 0x06 and one 0x07, and both bonds hold what stands in them.
+fn same_bonds(size: usize, played: &Played, found: &mut Violations) {
     let claim = Claim::SameBonds;
-    for (m, name) in [(terminal, "terminal"), (head, "head")] {
-        found.unless(m[machine::BOND_PRESENT] == 1, claim, || format!("the {name} has no bond"));
-        let rest = &m[machine::BOND + size.min(16)..machine::BOND + 16];
-        found.unless(rest.iter().all(|&o| o == 0), claim, || format!("the {name}'s LTK is not cut to {size} octets"));
-    }
-    for (at, length, name) in [(0, 16, "LTK"), (16, 2, "EDIV"), (18, 8, "Rand")] {
-        let of = |m: &Record| m[machine::BOND + at..][..length].to_vec();
-        found.unless(of(terminal) == of(head), claim, || format!("{name} differs"));
+    let [ltks, identifications] = [0x06, 0x07].map(|code: u8| played.ends[1].bodies(code));
+    let ([ltk], [identification]) = (&ltks[..], &identifications[..]) else {
+        return found.note(claim, "the head has not sent one LTK, EDIV and Rand");
+    };
+    let cut: Vec<u8> = ltk.iter().enumerate().map(|(at, &o)| if at < size { o } else { 0 }).collect();
+    for (end, name) in played.ends.iter().zip(["terminal", "head"]) {
+        found.unless(end.machine[machine::BOND_PRESENT] == 1, claim, || format!("the {name} has no bond"));
+        let bond = &end.machine[machine::BOND..];
+        found.unless(bond[..16] == cut[..], claim, || format!("the {name}'s LTK is not the one sent, cut to {size} octets"));
+        found.unless(bond[16..26] == **identification, claim, || format!("the {name}'s EDIV or Rand is not the one sent"));
     }
 }

@@ -218,6 +218,22 @@ fn other_bonds() {
         last(&mut run, at).answer.machine[machine::BOND + 15] = 7;
     }
     assert_eq!(violated(&run), [Claim::SameBonds], "a key that is not cut, at both ends alike");
+    for (place, length, name) in [(0, 16, "LTK"), (16, 2, "EDIV"), (18, 8, "Rand")] {
+        let mut run = bonding();
+        for at in 0..2 {
+            last(&mut run, at).answer.machine[machine::BOND + place..][..length].fill(0);
+        }
+        assert_eq!(violated(&run), [Claim::SameBonds], "{name} zero at both ends alike");
+    }
+}
+
+#[test]
+fn another_passkey_shown() {
+    for (at, method) in [(0, Method::TerminalShows), (1, Method::HeadShows)] {
+        let mut run = run_where(|_, facts| facts.method == method);
+        change_body(&mut run, at, 0x22, 0);
+        assert_eq!(violated(&run), [Claim::Shown]);
+    }
 }
 
 #[test]
