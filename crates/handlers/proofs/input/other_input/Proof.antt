@@ -1,5 +1,8 @@
 -- `handlers::input::other_input` meets its contract. Assumes nothing.
+use mathlib.Core.Path.{_∙_}
 use borrow.Author.Tests.{eq-eqb, ne-eqb}
+use Rattle.types.specs.Types.{commandCode}
+use Rattle.types.specs.declared.types.Command.the-variants as command
 use Rattle.protocol.specs.Handlers.{otherInput}
 use borrow.Author.Needs.{needs}
 use Rattle.handlers.proofs.input.other_input.Statement.{statement}
@@ -7,7 +10,7 @@ use Rattle.handlers.proofs.input.other_input.Tie as tie
 
 returns : tie.Need-returns
 unfolding otherInput
-returns c = λ s. rw (c .same .ensures, c .before .before .before .before .input .given .1, ← c .before .before .into-u8 .ensures, eq-eqb _ _ (c .before .if1 .taken))
+returns c = λ s. rw (c .same .ensures, c .before .before .before .before .input .given .1, eq-eqb _ (commandCode command.KeypressNotification) (c .before .if1 .taken ∙ c .before .before .into-u8 .ensures))
 
 returns-2 : tie.Need-returns-2
 unfolding otherInput
