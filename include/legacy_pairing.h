@@ -7,8 +7,9 @@
  *
  * Each function returns 0 or the number of a refusal; legacy_pairing_step has LEGACY_PAIRING_WANTS too. A refusal has
  * written nothing (but for the two counts of a step that is refused by 1, 2 or 3, which are then 0). None keeps anything
- * between calls, allocates, or calls back. What each gives is proved, for every input: see the contracts in
- * crates/legacy_pairing/src/lib.rt and the definitions that they cite. */
+ * between calls, allocates, or calls back; so a machine's record of an earlier step is taken as any other: keep the
+ * newest. What each gives is proved, for every input: see the contracts in crates/legacy_pairing/src/lib.rt and the
+ * definitions that they cite. */
 
 #ifndef LEGACY_PAIRING_H
 #define LEGACY_PAIRING_H
@@ -51,7 +52,7 @@ extern "C" {
 #define LEGACY_PAIRING_MACHINE_FEATURES 22 /* machine record: features with I/O above 4 or OOB above 1 */
 #define LEGACY_PAIRING_MACHINE_METHOD 23  /* machine record: no method */
 #define LEGACY_PAIRING_MACHINE_BOND 24    /* machine record: no bond */
-#define LEGACY_PAIRING_NOT_CANONICAL 25   /* machine record: a field that its phase does not hold is not zero */
+#define LEGACY_PAIRING_NOT_CANONICAL 25   /* machine record: not the record of the machine that was read (legacy_pairing_step) */
 #define LEGACY_PAIRING_NO_ROLE 26         /* the role is neither 0 nor 1 */
 #define LEGACY_PAIRING_NO_INPUT 27        /* step: no input has this number */
 #define LEGACY_PAIRING_BAD_EVENT 28       /* step: an event's data have another length or a forbidden value */
@@ -76,7 +77,12 @@ uint8_t legacy_pairing_new(uint8_t role,
  *   WANTS  the last call on the list has no answer: the machine is as it was. Run the step again with that answer added.
  * Beyond `*written` octets the list is as it was.
  * Refused, in this order: NO_ROLE; MACHINE_LENGTH to NOT_CANONICAL; NO_INPUT, BAD_EVENT; LIST_TOO_SHORT; NO_COMMAND;
- * BAD_ANSWER. */
+ * BAD_ANSWER.
+ * NOT_CANONICAL: the record reads, but this library would write another one for the machine that was read, since an octet
+ * is not zero where that machine holds nothing: a request, response, temporary key, nonce, confirm value or key that its
+ * phase does not hold, a detail of a phase or of an error that has none, or a bond where none is present. A record that
+ * legacy_pairing_new or a step has written is never refused so in its own role: the octets were changed since, or a fresh
+ * terminal's record is given with the head's role. */
 uint8_t legacy_pairing_step(uint8_t role,
                             uint8_t *machine, size_t machine_len,
                             uint16_t input,

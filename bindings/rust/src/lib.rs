@@ -35,7 +35,7 @@ impl fmt::Display for Refusal {
             22 => "the machine's record has no features",
             23 => "the machine's record has no method",
             24 => "the machine's record has no bond",
-            25 => "the machine's record holds what its phase does not",
+            25 => "the machine's record has an octet that is not zero where its machine holds nothing",
             26 => "no role has this number",
             27 => "no input has this number",
             28 => "an event's data have another length or a forbidden value",
@@ -129,7 +129,8 @@ impl Machine {
         Ok(Self { role, record })
     }
 
-    /// The machine of a record that was kept. A malformed one is refused by the machine's next step.
+    /// The machine of a record that was kept. A malformed one is refused by the machine's next step. A record of an earlier
+    /// step is not known from the newest: keep the newest.
     pub fn from_record(role: Role, record: [u8; MACHINE]) -> Self {
         Self { role, record }
     }

@@ -1,4 +1,5 @@
-// Steps and fresh machines on octet slices and numbers: a machine is its record of 161 octets. A refusal writes nothing.
+// Steps and fresh machines on octet slices and numbers: a machine is its record of 161 octets. A refusal leaves the record
+// and the list as they were. Of the two counts, a step refused by 1 to 3 sets both to 0; any other refusal leaves them.
 ghost use mathlib.Core.Path.{_≡_};
 ghost use lib.ListN.{length};
 ghost use Rattle.octets.specs.Answer.{accepted};
