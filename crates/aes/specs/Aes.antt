@@ -1,3 +1,4 @@
+-- Believed: the archive's contracts, demand 3 and the worked cases rest on it.
 -- FIPS 197, section 5, for a key of 128 bits: Nk = 4 words, Nr = 10 rounds. The state is 16 octets in the order of the
 -- input (section 3.4): octet r + 4c stands in row r and column c. Assumes nothing.
 use Prim.Native.Nat.{ℕ, zero, suc, _+_, _-_, _*_, _/_, _%_}

@@ -1,3 +1,4 @@
+-- Inner: words between the code's functions; the archive's contracts, demand 3 and the worked cases do not rest on it.
 -- How the code holds the standard's values: a column or a word is one number of four octets, the first lowest; a state
 -- or a round key is four of them; the S-box is a list. Assumes nothing.
 use Prim.Native.Nat.{ℕ, zero, suc, _/_, _%_}

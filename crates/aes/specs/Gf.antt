@@ -1,3 +1,4 @@
+-- Believed: the archive's contracts, demand 3 and the worked cases rest on it.
 -- FIPS 197, section 4: octets as elements of GF(2^8), polynomials modulo x^8 + x^4 + x^3 + x + 1; and section 5.1.1,
 -- the substitution of one octet. Assumes nothing.
 use Prim.Native.Nat.{ℕ, zero, suc, _+_, _*_, _/_, _%_, _^_}

@@ -1,3 +1,4 @@
+-- Believed: the archive's contracts and demand 3 rest on it.
 -- Answers as document 01 has them ("Paired or failed", "What is turned back"): records with the call's kind and a body
 -- of a fixed length, read at a place. Assumes nothing.
 use Prim.Native.Nat.{ℕ, _+_, _≤_}

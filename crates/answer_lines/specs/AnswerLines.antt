@@ -1,3 +1,4 @@
+-- Inner: words between the code's functions; the archive's contracts, demand 3 and the worked cases do not rest on it.
 -- The answer to a step line, OUTCOME READ WRITTEN MACHINE LIST, with its line feed. Assumes nothing.
 use Prim.Native.Nat.{ℕ, zero, suc, _+_, _-_, _≤_, _/_, _%_}
 use mathlib.Core.Path.{_≡_}

@@ -11,8 +11,8 @@ use lib.ListN.{length, getD, take, drop, length-append, length-drop, take-append
 use lib.Seq.{length-take-le, drop-cons, drop-drop, drop-append-seam, getD-at}
 use Rattle.octets.specs.Answer.{Answer, refused, accepted, andThen}
 use Rattle.types.proofs.Tables.{refused≢accepted}
-use Rattle.host.specs.Calls.{bodyOf, callOctets, callsOctets, bodyLength}
-use Rattle.call_list.specs.CallList.{begins, callsFrom, callsOf, recordsFrom, noCall, checkedOf, countOf, callIn, callAtOf, sizeOf, endToEnd}
+use Rattle.host.specs.Calls.{kindOf, bodyOf, callOctets, callsOctets, bodyLength}
+use Rattle.call_list.specs.CallList.{begins, callsFrom, callsOf, noCall, checkedOf, countOf, callIn, callAtOf, sizeOf}
 use Rattle.host.specs.declared.call.Call.{Call}
 use Rattle.call_list.specs.declared.CallRecord.{CallRecord}
 use Rattle.host.proofs.Writing.{body-length}
@@ -32,6 +32,11 @@ cut-body (suc n) at [] h = refl
 cut-body (suc n) at (x ∷ l) h = cut-body n (suc at) l (omega arith)
 
 -- ---- what the encoder wrote reads back
+
+-- the records of calls written one after another from place at on
+abbrev pub recordsFrom : ℕ → List Call → List CallRecord
+recordsFrom at [] = []
+recordsFrom at (c ∷ l) = record { kind = kindOf c; body = suc at } ∷ recordsFrom (at + length (callOctets c)) l
 
 read-from : (cs : List Call) (at : ℕ) → callsFrom at 0 (callsOctets cs) ≡ accepted (recordsFrom at cs)
 unfolding callsFrom callsOctets callOctets
@@ -84,6 +89,11 @@ nothing-begins k at (some n) l e = onto (callsFrom (suc at) n l) e
     onto : (y : Answer (List CallRecord)) → andThen y (λ calls. accepted (record { kind = k; body = suc at } ∷ calls)) ≡ accepted [] → ⊥
     onto (refused m) e = refused≢accepted e
     onto (accepted calls) e = no-call (sym e)
+
+-- the kinds of calls, each with its body in l
+abbrev pub endToEnd : List ℕ → List CallRecord → List ℕ
+endToEnd l [] = []
+endToEnd l (c ∷ calls) = c .kind ∷ (take (sizeOf (bodyLength (c .kind))) (drop (c .body) l) ++ endToEnd l calls)
 
 laid-from : (rs : List CallRecord) (pre l : List ℕ) → callsFrom (length pre) 0 l ≡ accepted rs → l ≡ endToEnd (pre ++ l) rs
 unfolding callsFrom

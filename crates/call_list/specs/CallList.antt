@@ -1,11 +1,11 @@
+-- Believed: the archive's contracts rest on it.
 -- Reading a call list, "What is turned back" of document 01: 6 if a kind is unknown or a body cut. Assumes nothing.
-use Prim.Native.Nat.{ℕ, zero, suc, _+_}
+use Prim.Native.Nat.{ℕ, zero, suc}
 use mathlib.Core.Option.{Option, none, some}
-use mathlib.Core.List.{List, [], _∷_, _++_}
-use lib.ListN.{length, getD, take, drop}
+use mathlib.Core.List.{List, [], _∷_}
+use lib.ListN.{length, getD}
 use Rattle.octets.specs.Answer.{Answer, refused, accepted, andThen}
-use Rattle.host.specs.Calls.{kindOf, callOctets, bodyLength}
-use Rattle.host.specs.declared.call.Call.{Call}
+use Rattle.host.specs.Calls.{bodyLength}
 use Rattle.call_list.specs.declared.CallRecord.{CallRecord}
 use Rattle.call_list.specs.declared.CallCount.{CallCount}
 use Rattle.call_list.specs.declared.CallCount.the-variants as call-count
@@ -46,21 +46,11 @@ callAtOf l i = andThen (callsOf l) (λ calls. accepted (callIn calls i))
 
 -- ---- what the encoder writes
 
--- the records of calls written one after another from place at on
-abbrev pub recordsFrom : ℕ → List Call → List CallRecord
-recordsFrom at [] = []
-recordsFrom at (c ∷ l) = record { kind = kindOf c; body = suc at } ∷ recordsFrom (at + length (callOctets c)) l
-
 -- ---- kinds and bodies laid end to end
 
 abbrev pub sizeOf : Option ℕ → ℕ
 sizeOf none = 0
 sizeOf (some n) = n
-
--- the kinds of calls, each with its body in l
-abbrev pub endToEnd : List ℕ → List CallRecord → List ℕ
-endToEnd l [] = []
-endToEnd l (c ∷ calls) = c .kind ∷ (take (sizeOf (bodyLength (c .kind))) (drop (c .body) l) ++ endToEnd l calls)
 
 -- ---- the code's cases
 

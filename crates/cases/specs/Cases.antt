@@ -1,3 +1,4 @@
+-- Believed: the worked cases are stated in it.
 -- Document 01, "Strictness of the contracts": the table of cases, each by the definition that the contracts cite.
 -- Assumes nothing.
 use Prim.Native.Nat.{ℕ, _^_, _<_}

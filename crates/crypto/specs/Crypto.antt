@@ -1,3 +1,4 @@
+-- Believed: the archive's contracts, demand 3 and the worked cases rest on it.
 -- The functions of legacy pairing, Core Specification Vol 3 Part H, section 2.2, and what document 01 says of keys and
 -- nonces ("Same key"). Part H writes a number most significant octet first, and `||` puts the more significant part
 -- first: so does this file. Octet strings as they are on the air are the reverse. Assumes nothing.

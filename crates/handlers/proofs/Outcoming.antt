@@ -21,7 +21,7 @@ use Rattle.ops.specs.declared.Delivered.the-variants as verdict
 use Rattle.ops.specs.declared.Halt.{Halt}
 use Rattle.ops.specs.declared.Halt.the-variants as halt
 use Rattle.ops.proofs.Laws.{run-bind, and-and}
-use Rattle.handlers.specs.Outcomes.{ranOutcome, outcomeOf, notOf, halted, ranSending, ranData, dataOf}
+use Rattle.handlers.specs.Outcomes.{ranOutcome, outcomeOf, notOf, halted, ranSending, ranChanged, dataOf}
 use Rattle.handlers.specs.Inputs.{isCommand, linkEncryptedIn, passKeyIn, isPassKeyCancel, oobDataIn}
 use Rattle.handlers.specs.declared.outcome.DataSent.{DataSent}
 use Rattle.handlers.specs.declared.outcome.Outcome.{Outcome}
@@ -41,6 +41,9 @@ outcome-halted c d t (halt.Failed e) = refl
 outcome-halted c d t (halt.Stop e) = refl
 
 -- .. and data that are a run's
+abbrev pub ranData : DataSent → Ran (Try PairingData)
+ranData r = ranChanged (r .trace) (r .«pairing_data») (r .answer)
+
 ran-dataOf : (d : PairingData) (x : Ran (Try PairingData)) → ranData (dataOf d x) ≡ x
 unfolding dataOf
 ran-dataOf d (ended (ok d₁) t) = refl

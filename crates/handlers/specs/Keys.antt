@@ -1,3 +1,4 @@
+-- Inner: words between the code's functions; the archive's contracts, demand 3 and the worked cases do not rest on it.
 -- The keys that one end distributes: their draws and packets. Assumes nothing.
 use Rattle.host.specs.declared.call.Call.the-variants as call
 use Rattle.host.specs.declared.call.Draw.the-variants as draw

@@ -1,3 +1,4 @@
+-- Inner: words between the code's functions; the archive's contracts, demand 3 and the worked cases do not rest on it.
 -- What a handler's code gives, as a run of its program. Assumes nothing.
 use Prim.Native.Nat.{ℕ}
 use mathlib.Core.List.{List}
@@ -64,9 +65,6 @@ ranConfirm d r = ranConfirmed d (r .trace) (r .«confirm_data») (r .answer)
 abbrev pub ranChanged : Trace → PairingData → Delivered → Ran (Try PairingData)
 ranChanged t d verdict.Yes = ended (ok d) t
 ranChanged t d (verdict.Not h) = halted t d h
-
-abbrev pub ranData : DataSent → Ran (Try PairingData)
-ranData r = ranChanged (r .trace) (r .«pairing_data») (r .answer)
 
 -- .. and a run as an outcome, with the data given where it has none
 abbrev pub notOf : Trace → ConfirmPhaseData → PairingData → Halt → Outcome

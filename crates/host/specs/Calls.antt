@@ -1,3 +1,4 @@
+-- Believed: the archive's contracts and demand 3 rest on it.
 -- Host calls as document 01 has them ("Paired or failed"): the number of each, its body, and the length that the number
 -- fixes. Assumes nothing.
 use Prim.Native.Nat.{ℕ, _+_}
@@ -168,10 +169,7 @@ unfoldable pub callsOctets : List Call → List ℕ
 callsOctets [] = []
 callsOctets (c ∷ l) = callOctets c ++ callsOctets l
 
--- one step lists no more calls than these, and no more octets of calls
-abbrev pub mostCalls : ℕ
-mostCalls = 11
-
+-- one step lists no more octets of calls than these
 abbrev pub longest : ℕ
 longest = 164
 

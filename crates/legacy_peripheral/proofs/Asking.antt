@@ -3,17 +3,36 @@ use Prim.Native.Nat.{ℕ}
 use mathlib.Core.Path.{_≡_}
 use mathlib.Core.Bool.{Bool, true, false}
 use mathlib.Core.List.{List}
+use Rattle.types.specs.declared.types.Command.the-variants as command
 use Rattle.types.specs.declared.types.PairingFeatures.{PairingFeatures}
+use Rattle.types.specs.declared.types.Reason.the-variants as reason
+use Rattle.bond.specs.declared.Error.the-variants.{Security}
 use Rattle.util.specs.Method.{legacyMethod}
 use Rattle.host.specs.declared.call.Question.the-variants as question
 use Rattle.host.specs.declared.call.Trace.{Trace}
+use Rattle.machine.specs.declared.Machine.{Machine}
 use Rattle.machine.specs.declared.PairingData.{PairingData}
-use Rattle.protocol.specs.Handlers.{onTry, _>>=_, asked, withFeatures, namesIdentityKey}
+use Rattle.protocol.specs.Handlers.{onTry, Handler, _>>=_, orFail, featuresIn, asked, commandOctets, withFeatures, namesIdentityKey}
 use Rattle.protocol.specs.LegacyPeripheral.{bondLost, identityOffered, responseFeatures, «handle_pairing_request»}
 use Rattle.ops.specs.Run.{andThen, run}
 use Rattle.ops.proofs.Laws.{run-bind}
 use Rattle.handlers.proofs.Outcoming.{run-assoc}
-use Rattle.peripheral_helpers.specs.Requests.{reportBondLost, negotiatedOn, negotiated, respond, respondTo, onRequest}
+use Rattle.peripheral_helpers.specs.Requests.{reportBondLost, negotiatedOn, negotiated, respond}
+
+-- a request with these features
+unfoldable pub respondTo : List ℕ → PairingData → PairingFeatures → Handler Machine
+respondTo preq d peer = do
+  offered ← identityOffered (namesIdentityKey (peer .«responder_key_distribution»))
+  bonding ← asked question.BondingFlag
+  available ← asked question.OobAvailable
+  let local = responseFeatures (d .«local_features») peer offered bonding available
+  respond preq (withFeatures local peer (legacyMethod peer local) d)
+
+-- .. or with none
+abbrev pub onRequest : PairingData → List ℕ → Handler Machine
+onRequest d payload = do
+  peer ← orFail d (Security reason.InvalidParameters) (featuresIn payload)
+  respondTo (commandOctets command.PairingRequest payload) d peer
 
 pub request-then :
     (s : List ℕ) (d : PairingData) (payload : List ℕ) (t : Trace) →

@@ -1,3 +1,4 @@
+-- Inner: words between the code's functions; the archive's contracts, demand 3 and the worked cases do not rest on it.
 -- A step line, ROLE LISTLEN MACHINE INPUT PAYLOAD ANSWERS, without its line feed, and what is read of it. `none` stands
 -- for malformed. Assumes nothing.
 use Prim.Native.Nat.{ℕ, suc, _+_, _-_, _*_, _<_}

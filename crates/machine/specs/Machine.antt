@@ -1,7 +1,7 @@
+-- Believed: the archive's contracts and demand 3 rest on it.
 -- The data of a pairing, from pairing/mod.rs, and the part of both roles' states that a machine keeps beside its phase,
 -- from the states of legacy_peripheral.rs and legacy_central.rs. Assumes nothing.
 use Prim.Native.Nat.{ℕ}
-use mathlib.Core.Path.{_≡_}
 use mathlib.Core.Bool.{Bool, true, false, cond, _&&_}
 use mathlib.Core.List.{_∷_}
 use lib.ListN.{replicate}
@@ -97,21 +97,6 @@ abbrev pub firstPhase : Role → Phase
 firstPhase Central = WaitingPairingResponse
 firstPhase Peripheral = WaitingPairingRequest
 
--- the states of a role
-abbrev pub OfRole : Role → Phase → Type 0
-OfRole r WaitingPairingRequest = r ≡ Peripheral
-OfRole r WaitingPairingResponse = r ≡ Central
-OfRole r (WaitingPassKeyInput b) = Unit {0}
-OfRole r WaitingOobData = Unit {0}
-OfRole r WaitingPairingConfirm = Unit {0}
-OfRole r (WaitingPairingRandom p) = Unit {0}
-OfRole r WaitingLinkEncrypted = Unit {0}
-OfRole r WaitingIdentitityInformation = Unit {0}
-OfRole r WaitingIdentitityAddressInformation = Unit {0}
-OfRole r (ReceivingKeys n k) = Unit {0}
-OfRole r Success = Unit {0}
-OfRole r (Error e) = Unit {0}
-
 abbrev pub resultOf : Phase → PairingResult
 resultOf WaitingPairingRequest = result.Pending
 resultOf WaitingPairingResponse = result.Pending
@@ -141,11 +126,6 @@ isEncrypted Success = true
 isEncrypted (Error e) = false
 
 -- ---- machines
-
--- a canonical machine of a role: its state is one of the role's, and nothing is kept that the state does not hold
-pub record Canonical (r : Role) (m : Machine) : Type 0 where
-  pub ofRole : OfRole r (m .phase)
-  pub kept : keptBy (m .phase) (m .«confirm_data») ≡ m .«confirm_data»
 
 -- legacy_peripheral's `new`
 unfoldable pub newMachine : PairingData → Machine

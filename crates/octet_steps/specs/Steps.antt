@@ -1,6 +1,8 @@
+-- Believed: the archive's contracts rest on it.
 -- Steps and fresh machines on octet strings and numbers: what each gives back, and what it leaves behind its references.
 -- A machine is its record of 161 octets. What is new here is how numbers stand for roles, inputs and outcomes. A refusal
--- writes nothing. Assumes nothing.
+-- leaves the record and the list as they were; the two counts become 0 by refusals 1 to 3 and are left by any other.
+-- Assumes nothing.
 use Prim.Native.Nat.{ℕ, _-_}
 use mathlib.Core.Bool.{true, false, cond}
 use mathlib.Core.List.{List, [], _∷_}

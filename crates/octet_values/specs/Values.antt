@@ -1,3 +1,4 @@
+-- Believed: the archive's contracts rest on it.
 -- Document 01's operations on octet strings and numbers: what each gives back, and what it leaves behind its references.
 -- A refusal writes nothing. Assumes nothing.
 use Prim.Native.Nat.{ℕ}

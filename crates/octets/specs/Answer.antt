@@ -1,3 +1,4 @@
+-- Believed: the archive's contracts, demand 3 and the worked cases rest on it.
 -- What an operation of document 01 answers: a value, or a refusal by its number ("What is turned back").
 -- Assumes nothing.
 use Prim.Native.Nat.{ℕ}

@@ -1,3 +1,4 @@
+-- Believed: the archive's contracts, demand 3 and the worked cases rest on it.
 -- Numbers as octet strings. An octet string runs least significant octet first, as on the air, unless a name says
 -- otherwise (BE: most significant octet first). Assumes nothing.
 use mathlib.Core.Path.{_≡_}

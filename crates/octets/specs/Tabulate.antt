@@ -1,3 +1,4 @@
+-- Believed: the archive's contracts, demand 3 and the worked cases rest on it.
 -- A list by its rule. Assumes nothing.
 use Prim.Native.Nat.{ℕ, zero, suc}
 use mathlib.Core.List.{List, [], _∷_, _++_}

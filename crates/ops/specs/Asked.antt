@@ -1,3 +1,4 @@
+-- Inner: words between the code's functions; the archive's contracts, demand 3 and the worked cases do not rest on it.
 -- What the code's functions give, as runs. Assumes nothing.
 use Prim.Native.Nat.{ℕ}
 use mathlib.Core.Bool.{Bool}

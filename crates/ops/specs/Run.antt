@@ -1,3 +1,4 @@
+-- Inner: words between the code's functions; the archive's contracts, demand 3 and the worked cases do not rest on it.
 -- A program's run on the code's trace: each call is listed, then its answer is read where the trace has read to. The contracts
 -- of the handlers speak of it; `play` is the same on lists. Assumes nothing.
 use Prim.Native.Nat.{ℕ}

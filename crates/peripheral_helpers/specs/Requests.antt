@@ -1,3 +1,4 @@
+-- Inner: words between the code's functions; the archive's contracts, demand 3 and the worked cases do not rest on it.
 -- Parts of `handle_pairing_request`, as its functions have them. Assumes nothing.
 use Prim.Native.Nat.{ℕ}
 use mathlib.Core.Bool.{Bool}
@@ -5,8 +6,6 @@ use mathlib.Core.List.{List}
 use Rattle.types.specs.Types.{featureOctets}
 use Rattle.types.specs.declared.types.Command.the-variants as command
 use Rattle.types.specs.declared.types.PairingFeatures.{PairingFeatures}
-use Rattle.types.specs.declared.types.Reason.the-variants as reason
-use Rattle.bond.specs.declared.Error.the-variants.{Security}
 use Rattle.util.specs.Method.{legacyMethod}
 use Rattle.host.specs.declared.call.ConnectionEvent.the-variants as notice
 use Rattle.host.specs.declared.call.Draw.the-variants as draw
@@ -17,7 +16,7 @@ use Rattle.answer.specs.Answers.{Found, found, stopped as nothing, flagAnswer}
 use Rattle.machine.specs.declared.Machine.{Machine}
 use Rattle.machine.specs.declared.PairingData.{PairingData}
 use Rattle.machine.specs.declared.Phase.the-variants as phase
-use Rattle.protocol.specs.Handlers.{Try, ok, Handler, _>>=_, _>>_, give, orFail, featuresIn, sendPacket, sendEvent, asked, drawn, commandOctets, namesIdentityKey, enters, confirmData, passKeyTk, withFeatures}
+use Rattle.protocol.specs.Handlers.{Try, ok, Handler, _>>=_, _>>_, give, sendPacket, sendEvent, asked, drawn, commandOctets, namesIdentityKey, enters, confirmData, passKeyTk, withFeatures}
 use Rattle.protocol.specs.LegacyPeripheral.{bondLost, identityOffered, responseFeatures, beginMethod}
 use Rattle.ops.specs.Run.{Ran, ended, stopped}
 use Rattle.ops.specs.declared.AskedFlag.{AskedFlag}
@@ -44,21 +43,6 @@ abbrev pub respond : List ℕ → PairingData → Handler Machine
 respond preq d = do
   sendPacket d (packet.PairingResponse (d .«local_features»))
   beginMethod preq (commandOctets command.PairingResponse (featureOctets (d .«local_features»))) d (d .«pairing_method»)
-
--- a request with these features
-unfoldable pub respondTo : List ℕ → PairingData → PairingFeatures → Handler Machine
-respondTo preq d peer = do
-  offered ← identityOffered (namesIdentityKey (peer .«responder_key_distribution»))
-  bonding ← asked question.BondingFlag
-  available ← asked question.OobAvailable
-  let local = responseFeatures (d .«local_features») peer offered bonding available
-  respond preq (withFeatures local peer (legacyMethod peer local) d)
-
--- .. or with none
-abbrev pub onRequest : PairingData → List ℕ → Handler Machine
-onRequest d payload = do
-  peer ← orFail d (Security reason.InvalidParameters) (featuresIn payload)
-  respondTo (commandOctets command.PairingRequest payload) d peer
 
 abbrev pub displayPassKey : List ℕ → List ℕ → PairingData → Handler Machine
 displayPassKey preq pres d = do

@@ -15,7 +15,7 @@ use Rattle.util.specs.declared.util.PairingMethod.{PairingMethod}
 use Rattle.util.specs.declared.util.PairingMethod.the-variants as method
 use Rattle.util.specs.declared.util.PassKeyEntryAction.the-variants as action
 use Rattle.host.specs.Calls.{callOctets}
-use Rattle.machine.specs.Machine.{Canonical, wantBonding, zeroWord}
+use Rattle.machine.specs.Machine.{wantBonding, zeroWord}
 use Rattle.machine.specs.declared.ConfirmBytes.{ConfirmBytes}
 use Rattle.machine.specs.declared.ConfirmBytes.the-variants as stored
 use Rattle.machine.specs.declared.ConfirmPhaseData.{ConfirmPhaseData}
@@ -25,6 +25,7 @@ use Rattle.machine.specs.declared.PairingData.{PairingData}
 use Rattle.machine.specs.declared.Phase.{Phase}
 use Rattle.machine.specs.declared.Phase.the-variants as phase
 use Rattle.machine.specs.declared.Role.the-variants.{Central}
+use Rattle.machine.proofs.Canonical.{Canonical}
 use Rattle.protocol.specs.Handlers.{wordIn, featuresIn, identificationIn, addressIn, confirmData, passKeyTk, «store_confirm_bytes», sendEncryptionKey, sendIdentityKey, «handle_encryption_information», «handle_identity_information»}
 use Rattle.protocol.specs.LegacyCentral.{«send_all_keys», awaitIdentityOrSend, awaitKeys, awaitKeysOrSucceed, «handle_link_encrypted_success», «send_mconfirm», «send_mrand», answerConfirm, «handle_peer_confirm», afterMconfirm, «handle_pass_key_input», beginConfirm, beginMethod, «handle_pairing_response», confirmValue, onSrand, «handle_pairing_random», «handle_central_identification», sendKeysOrSucceed, «handle_identity_address_information», linkEncrypted, transitionFrom, transition}
 use Rattle.protocol.proofs.Bounds.{Keeps, Anything, keeps-more, keeps-then, or-fail-then, delivered-then, delivered-last}

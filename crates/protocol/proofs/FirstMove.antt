@@ -6,9 +6,9 @@ use mathlib.Core.Option.{some}
 use Rattle.answer.specs.Answers.{bodyAt, flagAt}
 use Rattle.host.specs.declared.call.Call.the-variants as call
 use Rattle.host.specs.declared.call.Question.the-variants as question
-use Rattle.machine.specs.Machine.{Canonical, newMachine}
+use Rattle.machine.specs.Machine.{newMachine}
 use Rattle.machine.specs.declared.Role.the-variants.{Central, Peripheral}
-use Rattle.machine.proofs.Canonical.{new-canonical, switch-canonical}
+use Rattle.machine.proofs.Canonical.{Canonical, new-canonical, switch-canonical}
 use Rattle.protocol.specs.LegacyPeripheral.{«handle_pairing_request», transition, «handle_input»}
 use Rattle.protocol.specs.Step.{playOf, step}
 use Rattle.protocol.specs.FairLink.{Start, freshTerminal, freshHead, Shared, aPacket, Link, requestOf, freshLink, stepAt, callsAt, anInput, Move, takePacket}

@@ -23,7 +23,7 @@ use Rattle.host.specs.declared.call.Call.{Call}
 use Rattle.host.specs.declared.call.Call.the-variants as call
 use Rattle.host.specs.declared.call.ConnectionEvent.the-variants as notice
 use Rattle.host.proofs.Writing.{call-short}
-use Rattle.machine.specs.Machine.{Canonical, wantBonding}
+use Rattle.machine.specs.Machine.{wantBonding}
 use Rattle.machine.specs.declared.ConfirmPhaseData.{ConfirmPhaseData}
 use Rattle.machine.specs.declared.Event.the-variants as event
 use Rattle.machine.specs.declared.Input.{Input}
@@ -33,6 +33,7 @@ use Rattle.machine.specs.declared.PairingData.{PairingData}
 use Rattle.machine.specs.declared.Phase.{Phase}
 use Rattle.machine.specs.declared.Phase.the-variants as phase
 use Rattle.machine.specs.declared.Role.{Role}
+use Rattle.machine.proofs.Canonical.{Canonical}
 use Rattle.protocol.specs.Program.{bind}
 use Rattle.protocol.specs.Ops.{Reply}
 use Rattle.protocol.specs.Handlers.{Try, ok, err, Handler, wordIn, onCommand, onLinkEncrypted, onPassKeyInput, onPassKeyCancel, onOobData, onReceivingKeys, otherInput, enterBonded, enterSuccess, enterPhase, enter, entered, «store_confirm_bytes», sendEncryptionKey, sendIdentityKey, enableEncryption, «handle_encryption_information», «handle_identity_information»}

@@ -18,10 +18,10 @@ use Rattle.types.specs.declared.types.UseOutOfBand.the-variants.{NotPresent}
 use Rattle.util.specs.declared.util.PairingMethod.the-variants.{JustWorks}
 use Rattle.bond.specs.Bond.{bdAddrOctets, addressOctets, addressOf, bondOctets, bondWith}
 use Rattle.bond.specs.declared.OptionBond.the-variants as option
-use Rattle.host.specs.Calls.{callOctets, mostCalls, callsOctets, longest}
+use Rattle.host.specs.Calls.{callOctets, callsOctets, longest}
 use Rattle.host.specs.declared.call.Call.{Call}
 use Rattle.answer.specs.Answers.{bodyAt, verdictAt, ltkAt, edivAt, randAt, irkAt, addressAt}
-use Rattle.machine.specs.Machine.{Canonical, newData, noConfirmData, wantBonding}
+use Rattle.machine.specs.Machine.{newData, noConfirmData, wantBonding}
 use Rattle.machine.specs.declared.Event.{Event}
 use Rattle.machine.specs.declared.Event.the-variants as event
 use Rattle.machine.specs.declared.Input.{Input}
@@ -30,6 +30,7 @@ use Rattle.machine.specs.declared.Machine.{Machine}
 use Rattle.machine.specs.declared.Phase.the-variants as phase
 use Rattle.machine.specs.declared.Role.{Role}
 use Rattle.machine.specs.declared.Role.the-variants.{Central, Peripheral}
+use Rattle.machine.proofs.Canonical.{Canonical}
 use Rattle.protocol.specs.Program.{bind, Ending, ended, wanting, refusing, Played}
 use Rattle.protocol.specs.Handlers.{Handler, entered, enters, withFeatures, withBond, withKeys, enter, sendEncryptionKey, sendIdentityKey}
 use Rattle.protocol.specs.LegacyCentral as central
@@ -44,6 +45,10 @@ use Rattle.protocol.proofs.CentralBounds as central-bounds
 use Rattle.protocol.proofs.PeripheralBounds as peripheral-bounds
 
 -- ---- a step's bounds
+
+-- one step lists no more calls than these
+abbrev pub mostCalls : ℕ
+mostCalls = 11
 
 -- a transition and the state that it enters
 most-within :

@@ -14,7 +14,7 @@ use Rattle.util.specs.declared.util.PairingMethod.{PairingMethod}
 use Rattle.util.specs.declared.util.PairingMethod.the-variants as method
 use Rattle.util.specs.declared.util.PassKeyEntryAction.the-variants as action
 use Rattle.host.specs.Calls.{callOctets}
-use Rattle.machine.specs.Machine.{Canonical, wantBonding}
+use Rattle.machine.specs.Machine.{wantBonding}
 use Rattle.machine.specs.declared.ConfirmBytes.{ConfirmBytes}
 use Rattle.machine.specs.declared.ConfirmBytes.the-variants as stored
 use Rattle.machine.specs.declared.ConfirmPhaseData.{ConfirmPhaseData}
@@ -24,6 +24,7 @@ use Rattle.machine.specs.declared.PairingData.{PairingData}
 use Rattle.machine.specs.declared.Phase.{Phase}
 use Rattle.machine.specs.declared.Phase.the-variants as phase
 use Rattle.machine.specs.declared.Role.the-variants.{Peripheral}
+use Rattle.machine.proofs.Canonical.{Canonical}
 use Rattle.protocol.specs.Handlers.{wordIn, featuresIn, identificationIn, addressIn, namesIdentityKey, withBond, «store_confirm_bytes», sendEncryptionKey, sendIdentityKey, enableEncryption, «handle_encryption_information», «handle_identity_information»}
 use Rattle.protocol.specs.LegacyPeripheral.{awaitIdentityOrSucceed, awaitKeys, «send_all_keys», sendKeysOrAwaitIdentity, «handle_link_encrypted_success», «send_sconfirm», answerConfirm, «handle_peer_confirm», «handle_pass_key_input», bondLost, identityOffered, beginMethod, «handle_pairing_request», confirmValue, onMrand, «handle_pairing_random», «handle_central_identification», «handle_identity_address_information», linkEncrypted, transitionFrom, transition}
 use Rattle.protocol.proofs.Bounds.{Keeps, Anything, keeps-then, or-fail-then, delivered-then, option-bond-then}

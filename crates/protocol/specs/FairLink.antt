@@ -1,3 +1,4 @@
+-- Believed: demand 3 is stated in it, and the archive's contracts rest on it.
 -- The fair link, document 01's section "The fair link of demand 3", up to the word "run"; what is claimed of runs stands
 -- in FairRuns. The order is the section's, but that a word stands before it is used. The terminal is the central, the
 -- head the peripheral. Assumes nothing.

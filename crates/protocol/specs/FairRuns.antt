@@ -1,3 +1,4 @@
+-- Believed: demand 3 is stated in it.
 -- Demand 3, the rest of document 01's section "The fair link of demand 3": what every run from a fair start comes to.
 -- First the words of the claim, in the section's order, then the claim, which is one of whole lists of moves. Assumes
 -- nothing.

@@ -1,3 +1,4 @@
+-- Believed: the archive's contracts and demand 3 rest on it.
 -- What the handlers of both roles are made of: the Rust's `?`, payloads, the data that a handler changes, and the parts
 -- that legacy_peripheral.rs and legacy_central.rs have in the same words. Assumes nothing.
 use Prim.Native.Nat.{ℕ}

@@ -1,3 +1,4 @@
+-- Believed: the archive's contracts and demand 3 rest on it.
 -- legacy_central.rs, the initiator: each of its functions as a program of host calls, under its name, in «» where the
 -- name has several words. What a function calls stands before it, so the FSM core comes last; else the order is the
 -- file's. In the same words in both files, and so in Handlers: `addr_type_flag`, `enter`,

@@ -1,3 +1,4 @@
+-- Believed: the archive's contracts and demand 3 rest on it.
 -- The host as a handler sees it: PairingOps and the generator of pairing/mod.rs, as calls and their replies. What a
 -- verdict means, and which octets are forbidden, is said here, where an answer is read, and not in the handlers. Assumes
 -- nothing.

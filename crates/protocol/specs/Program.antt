@@ -1,3 +1,4 @@
+-- Believed: the archive's contracts and demand 3 rest on it.
 -- Programs of host calls. One type serves the definitions of both roles, the contracts of their code and the fair link.
 -- Assumes nothing.
 use Prim.Native.Nat.{ℕ}

@@ -1,3 +1,4 @@
+-- Believed: the archive's contracts and demand 3 rest on it.
 -- A step on octets, document 01 ("Paired or failed", "What is turned back"): the dispatch of pairing/mod.rs over the
 -- role, refusals, and what the caller gets. Assumes nothing.
 use Prim.Native.Nat.{ℕ}

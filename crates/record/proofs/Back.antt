@@ -14,11 +14,12 @@ use Rattle.bond.specs.declared.Error.the-variants.{Security, InvalidState, Inva
 use Rattle.bond.specs.declared.OptionBond.{OptionBond}
 use Rattle.bond.specs.declared.OptionBond.the-variants as option
 use Rattle.bond.proofs.Back.{OptionBondValued, bond-back}
-use Rattle.machine.specs.Machine.{firstPhase, OfRole}
+use Rattle.machine.specs.Machine.{firstPhase}
 use Rattle.machine.specs.declared.Role.{Role}
 use Rattle.machine.specs.declared.ConfirmBytes.the-variants as stored
 use Rattle.machine.specs.declared.Phase.{Phase}
 use Rattle.machine.specs.declared.Phase.the-variants as phase
+use Rattle.machine.proofs.Canonical.{OfRole}
 use Rattle.record.specs.Record.{phaseOctets, confirmIn, receivedIn, methodCode, reasonAt, phaseOf, featuresAt, methodOf, optionBondOf}
 
 -- ---- piece by piece

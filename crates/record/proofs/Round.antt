@@ -13,13 +13,13 @@ use Rattle.types.specs.declared.types.Reason.{Reason}
 use Rattle.types.proofs.Tables.{refused≢accepted}
 use Rattle.bond.specs.declared.Error.the-variants.{Security}
 use Rattle.bond.proofs.Back.{WordValued, AddressValued, OptionBondValued, word-read, address-back}
-use Rattle.machine.specs.Machine.{keptBy, firstPhase, OfRole, Canonical}
+use Rattle.machine.specs.Machine.{keptBy, firstPhase}
 use Rattle.machine.specs.declared.Role.{Role}
 use Rattle.machine.specs.declared.Role.the-variants.{Central, Peripheral}
 use Rattle.machine.specs.declared.Phase.{Phase}
 use Rattle.machine.specs.declared.Phase.the-variants.{Error}
 use Rattle.machine.specs.declared.Machine.{Machine}
-use Rattle.machine.proofs.Canonical.{kept-kept}
+use Rattle.machine.proofs.Canonical.{OfRole, Canonical, kept-kept}
 use Rattle.record.specs.Record.{recordSize, confirmIn, receivedIn, machineOctets, octetsAt, wordAt, reasonAt, errorsWith, errorOf, passKeysWith}
 use Rattle.record.specs.Record.{phasesWith, phaseOf, phaseAt, pairingDataOf, confirmDataOf, sameOctets, canonical, machineOf}
 use Rattle.record.proofs.Compared.{same-refl, same-true, own}

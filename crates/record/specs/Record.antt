@@ -1,3 +1,4 @@
+-- Believed: the archive's contracts rest on it.
 -- The machine record: a machine of either role as 161 octets, and the machine that is read of them. Assumes nothing.
 use Prim.Native.Nat.{ℕ}
 use mathlib.Core.Bool.{Bool, true, false, cond, _&&_}

@@ -1,3 +1,4 @@
+-- Believed: the archive's contracts, demand 3 and the worked cases rest on it.
 -- Reasons, command codes, the flags and the pairing features, Vol 3 Part H, 3.3 to 3.6. Assumes nothing.
 use Prim.Native.Nat.{ℕ, _%_, _^_}
 use mathlib.Core.Bool.{Bool, true, false, cond, _&&_}
