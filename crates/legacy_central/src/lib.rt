@@ -59,7 +59,7 @@ use phases::waiting_identity;
 use types::Command;
 use types::KeyDistributionFlags;
 use types::Reason;
-use util::choose_legacy_pairing_method;
+use util::legacy_pairing_method;
 
 // --- FSM core ---
 
@@ -447,7 +447,7 @@ fn handle_pairing_response(
         let error = Error::Security(Reason::InvalidParameters);
         return Outcome::failed(trace, confirm_data, pairing_data, error);
     };
-    let pairing_method = choose_legacy_pairing_method(local_features, peer_features);
+    let pairing_method = legacy_pairing_method(local_features, peer_features);
     let changed = PairingData {
         peer_features,
         pairing_method,

@@ -67,7 +67,7 @@ use types::Reason;
 use types::UseOutOfBand;
 use util::PairingMethod;
 use util::PassKeyEntryAction;
-use util::choose_legacy_pairing_method;
+use util::legacy_pairing_method;
 
 // c1 of a nonce: the peer is the initiator.
 fn confirm_value(confirm_data: ConfirmPhaseData, pairing_data: PairingData, nonce: Nonce) -> Confirm
@@ -205,7 +205,7 @@ pub fn negotiate(
         pairing_data: PairingData {
             local_features,
             peer_features,
-            pairing_method: choose_legacy_pairing_method(peer_features, local_features),
+            pairing_method: legacy_pairing_method(peer_features, local_features),
             ..pairing_data
         },
         answer: Delivered::Yes,

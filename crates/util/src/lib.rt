@@ -6,3 +6,4 @@ pub use connection::SecurityLevel;
 pub use util::PairingMethod;
 pub use util::PassKeyEntryAction;
 pub use util::choose_legacy_pairing_method;
+pub use util::legacy_pairing_method;

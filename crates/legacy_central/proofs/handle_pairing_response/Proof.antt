@@ -17,7 +17,7 @@ returns c = rw (c .failed .ensures, ← c .before .before .before .before .read-
 
 returns-2 : tie.Need-returns-2
 unfolding «handle_pairing_response»
-returns-2 c = rw (← c .before .before .before .before .before .before .before .before .before .read-features .ensures .0, c .before .before .before .before .before .before .features .given .1, ← c .before .before .before .before .choose-legacy-pairing-method .ensures .0, ← (c .before .before .before .before .before .before .before .before .before .read-features .ensures .1 ∙ ap (λ (f : TryFeatures). whereFound f (commandOctets command.PairingResponse (now (c .before .before .before .before .before .before .before .before .before .before .before .before .before .before .args .payload)))) (c .before .before .before .before .before .before .features .given .1))) (ran-of _ _ _ (c .begin-method .ensures))
+returns-2 c = rw (← c .before .before .before .before .before .before .before .before .before .read-features .ensures .0, c .before .before .before .before .before .before .features .given .1, ← c .before .before .before .before .legacy-pairing-method .ensures, ← (c .before .before .before .before .before .before .before .before .before .read-features .ensures .1 ∙ ap (λ (f : TryFeatures). whereFound f (commandOctets command.PairingResponse (now (c .before .before .before .before .before .before .before .before .before .before .before .before .before .before .args .payload)))) (c .before .before .before .before .before .before .features .given .1))) (ran-of _ _ _ (c .begin-method .ensures))
 
 pub handle-pairing-response-spec : {M : Type 1} → statement M
 handle-pairing-response-spec =

@@ -19,7 +19,7 @@ returns-3 c = rw (c .no-answer3 .ensures, run-bind, ← c .before .before .befor
 
 returns-4 : tie.Need-returns-4
 unfolding dataOf
-returns-4 c = rw (run-bind, ← c .before .before .before .before .before .before .before .before .before .before .before .before .before .before .before .before .before .before .before .identity-key-offered .ensures, c .before .before .before .before .before .before .before .before .before .before .before .before .before .before .before .before .answer1 .given .1, ← c .before .before .before .before .before .before .before .before .before .before .before .before .before .before .bonding-flag .ensures, c .before .before .before .before .before .before .before .before .before .before .before .answer2 .given .1, ← c .before .before .before .before .before .before .before .before .before .oob-available .ensures, c .before .before .before .before .before .before .answer3 .given .1, ← c .before .before .before .response-features .ensures, ← c .before .before .choose-legacy-pairing-method .ensures .0)
+returns-4 c = rw (run-bind, ← c .before .before .before .before .before .before .before .before .before .before .before .before .before .before .before .before .before .before .before .identity-key-offered .ensures, c .before .before .before .before .before .before .before .before .before .before .before .before .before .before .before .before .answer1 .given .1, ← c .before .before .before .before .before .before .before .before .before .before .before .before .before .before .bonding-flag .ensures, c .before .before .before .before .before .before .before .before .before .before .before .answer2 .given .1, ← c .before .before .before .before .before .before .before .before .before .oob-available .ensures, c .before .before .before .before .before .before .answer3 .given .1, ← c .before .before .before .response-features .ensures, ← c .before .before .legacy-pairing-method .ensures)
 
 pub negotiate-spec : {M : Type 1} → statement M
 negotiate-spec =
