@@ -2,8 +2,11 @@
 ghost use mathlib.Core.Path.{_≡_};
 ghost use Rattle.types.specs.Types.{featureOctets};
 ghost use Rattle.types.specs.declared.types.Command.the-variants as command;
+ghost use Rattle.types.specs.declared.types.Reason.the-variants as reason;
+ghost use Rattle.bond.specs.declared.Error.{Error};
+ghost use Rattle.bond.specs.declared.Error.the-variants.{Security, InvalidValue};
 ghost use Rattle.protocol.specs.Handlers.{wordIn, featuresIn, identificationIn, addressIn, reasonIn, commandOctets};
-ghost use Rattle.handlers.specs.Payloads.{wordFound, featuresFound, identificationFound, addressFound, whereFound};
+ghost use Rattle.handlers.specs.Payloads.{orError, wordRead, featuresRead, identificationRead, addressRead, whereFound};
 use bond::Address;
 use bond::read_address;
 use octets::Word128;
@@ -22,7 +25,7 @@ pub enum TryWord {
 
 // Exactly 16 octets.
 pub fn read_payload_word(payload: &[u8]) -> TryWord
-    ensures { λ r. ⌜ wordFound r ≡ wordIn (now (payload .entry)) ⌝ }
+    ensures { λ r. ⌜ ((e : Error) → wordRead e r ≡ orError e (wordIn (now (payload .entry)))) ⌝ }
 {
     if payload.len() != 16 {
         return TryWord::WrongLength;
@@ -43,7 +46,7 @@ pub struct ReadFeatures {
 
 // Six octets and no more.
 pub fn read_features(command: Command, payload: &[u8]) -> ReadFeatures
-    ensures { λ r. ⌜ (featuresFound (r .features) ≡ featuresIn (now (payload .entry))) × (r .octets ≡ whereFound (r .features) (commandOctets command (now (payload .entry)))) ⌝ }
+    ensures { λ r. ⌜ (featuresRead (r .features) ≡ orError (Security reason.InvalidParameters) (featuresIn (now (payload .entry)))) × (r .octets ≡ whereFound (r .features) (commandOctets command (now (payload .entry)))) ⌝ }
 {
     let none = ReadFeatures {
         octets: [0; 7],
@@ -93,7 +96,7 @@ pub enum TryIdentification {
 }
 
 pub fn read_identification(payload: &[u8]) -> TryIdentification
-    ensures { λ r. ⌜ identificationFound r ≡ identificationIn (now (payload .entry)) ⌝ }
+    ensures { λ r. ⌜ identificationRead r ≡ orError (Security reason.InvalidParameters) (identificationIn (now (payload .entry))) ⌝ }
 {
     if payload.len() < 10 {
         return TryIdentification::InvalidParameters;
@@ -110,7 +113,7 @@ pub enum TryAddress {
 
 // Address kind 0 or 1, then six octets.
 pub fn read_identity_address(payload: &[u8]) -> TryAddress
-    ensures { λ r. ⌜ addressFound r ≡ addressIn (now (payload .entry)) ⌝ }
+    ensures { λ r. ⌜ addressRead r ≡ orError InvalidValue (addressIn (now (payload .entry))) ⌝ }
 {
     if payload.len() < 7 {
         return TryAddress::InvalidValue;

@@ -1,16 +1,17 @@
 -- `legacy_central::handle_central_identification` meets its contract. Assumes nothing.
 use Rattle.protocol.specs.LegacyCentral.{«handle_central_identification»}
+use Rattle.handlers.proofs.Reading.{payload-held}
 use borrow.Author.Needs.{needs}
 use Rattle.legacy_central.proofs.handle_central_identification.Statement.{statement}
 use Rattle.legacy_central.proofs.handle_central_identification.Tie as tie
 
 returns : tie.Need-returns
 unfolding «handle_central_identification»
-returns c = rw (c .failed .ensures, ← c .before .before .before .read-identification .ensures, c .before .enum-told .given .1)
+returns c = rw (c .failed .ensures, payload-held _ _ (c .before .before .before .read-identification .ensures), c .before .enum-told .given .1)
 
 returns-2 : tie.Need-returns-2
 unfolding «handle_central_identification»
-returns-2 c = rw (← c .before .before .before .before .before .read-identification .ensures, c .before .before .before .ediv .given .1, ← c .before .with-keys .ensures) (c .identity-or-own-keys .ensures)
+returns-2 c = rw (payload-held _ _ (c .before .before .before .before .before .read-identification .ensures), c .before .before .before .ediv .given .1, ← c .before .with-keys .ensures) (c .identity-or-own-keys .ensures)
 
 pub handle-central-identification-spec : {M : Type 1} → statement M
 handle-central-identification-spec =

@@ -1,16 +1,17 @@
 -- `legacy_peripheral::handle_identity_address_information` meets its contract. Assumes nothing.
 use Rattle.protocol.specs.LegacyPeripheral.{«handle_identity_address_information»}
+use Rattle.handlers.proofs.Reading.{payload-held}
 use borrow.Author.Needs.{needs}
 use Rattle.legacy_peripheral.proofs.handle_identity_address_information.Statement.{statement}
 use Rattle.legacy_peripheral.proofs.handle_identity_address_information.Tie as tie
 
 returns : tie.Need-returns
 unfolding «handle_identity_address_information»
-returns c = λ s. rw (c .failed .ensures, ← c .before .before .before .read-identity-address .ensures, c .before .enum-told .given .1)
+returns c = λ s. rw (c .failed .ensures, payload-held _ _ (c .before .before .before .read-identity-address .ensures), c .before .enum-told .given .1)
 
 returns-2 : tie.Need-returns-2
 unfolding «handle_identity_address_information»
-returns-2 c = λ s. rw (c .next .ensures, ← c .before .before .before .before .before .read-identity-address .ensures, c .before .before .before .peer-address .given .1, ← c .before .with-identity-address .ensures)
+returns-2 c = λ s. rw (c .next .ensures, payload-held _ _ (c .before .before .before .before .before .read-identity-address .ensures), c .before .before .before .peer-address .given .1, ← c .before .with-identity-address .ensures)
 
 pub handle-identity-address-information-spec : {M : Type 1} → statement M
 handle-identity-address-information-spec =

@@ -3,16 +3,17 @@ use mathlib.Core.Path.{refl}
 use borrow.Author.Tests.{eq-eqb, ne-eqb}
 use Rattle.protocol.specs.Handlers.{featuresIn}
 use Rattle.handlers.proofs.Features.{not-decoded, six}
+use Rattle.handlers.specs.Payloads.{orError}
 use borrow.Author.Needs.{needs}
 use Rattle.handlers.proofs.payload.read_features.Statement.{statement}
 use Rattle.handlers.proofs.payload.read_features.Tie as tie
 
 returns : tie.Need-returns
-unfolding featuresIn
+unfolding featuresIn orError
 returns c = (rw (ne-eqb _ _ (c .if1 .taken)), refl)
 
 returns-2 : tie.Need-returns-2
-unfolding featuresIn
+unfolding featuresIn orError
 returns-2 c = (
   rw (
     eq-eqb _ _ (c .before .before .if1 .left),
@@ -23,7 +24,7 @@ returns-2 c = (
 )
 
 returns-3 : tie.Need-returns-3
-unfolding featuresIn
+unfolding featuresIn orError
 returns-3 c =
     let code = c .before .before .before .before .before .before in
     let read = code .before .before .before .before in (
