@@ -91,30 +91,33 @@ answerLength (call.UpdateBondInformation b) = verdictLength
 
 -- ---- what stands at a place
 
+-- an answer that was found; or the answers end there, and the step wants one; or the step is refused by a number
 pub data Found (A : Type 0) : Type 0 where
   found : A → Found A
-  stopped : Stop → Found A
+  wanted : Found A
+  refusedBy : ℕ → Found A
 
 abbrev pub onFound : {A B : Type 0} → Found A → (A → Found B) → Found B
 onFound (found a) f = f a
-onFound (stopped e) f = stopped e
+onFound wanted f = wanted
+onFound (refusedBy n) f = refusedBy n
 
--- why there is no answer; Wanted where there is one
-abbrev pub stopOf : {A : Type 0} → Found A → Stop
-stopOf (found a) = Wanted
-stopOf (stopped e) = e
+-- "What is turned back": 3 when an answer reached has another kind, a cut body or a forbidden value
+abbrev pub answerRefusal : ℕ
+answerRefusal = 3
 
 -- a forbidden value is refused
 abbrev pub allowed : {A B : Type 0} → Option A → (A → B) → Found B
-allowed none f = stopped Refused
+allowed none f = refusedBy answerRefusal
 allowed (some a) f = found (f a)
 
 -- the body of the record at a place: wanted where the answers end exactly there, refused where the kind is another or
 -- the body is cut
 unfoldable pub bodyAt : List ℕ → ℕ → ℕ → ℕ → Found (List ℕ)
 bodyAt s at kind size =
-    cond (eqb at (length s)) (stopped Wanted)
-    (cond (ltb (at + size) (length s) && eqb (getD s at 0) kind) (found (take size (drop (at + 1) s))) (stopped Refused))
+    cond (eqb at (length s)) wanted
+    (cond (ltb (at + size) (length s) && eqb (getD s at 0) kind) (found (take size (drop (at + 1) s)))
+    (refusedBy answerRefusal))
 
 -- the answer to a call
 abbrev pub answerAt : List ℕ → ℕ → Call → Found (List ℕ)
@@ -149,7 +152,7 @@ abbrev pub passKeyMax : ℕ
 passKeyMax = 999999
 
 abbrev pub passKeyBody : ℕ → Found PassKey
-passKeyBody n = cond (ltb passKeyMax n) (stopped Refused) (found (record { 0 = n }))
+passKeyBody n = cond (ltb passKeyMax n) (refusedBy answerRefusal) (found (record { 0 = n }))
 
 unfoldable pub passKeyAt : List ℕ → ℕ → Found PassKey
 passKeyAt s at = onFound (answerAt s at (call.Draw draw.PassKey)) (λ b. passKeyBody (fromOctets b))
@@ -176,7 +179,7 @@ presentBody b true = allowed (bondOf (take 51 (drop 2 b))) (λ bond. option-resu
 presentBody b false = found (option-result.Ok option.None)
 
 abbrev pub onPresent : List ℕ → Option Bool → Found OptionBondResult
-onPresent b none = stopped Refused
+onPresent b none = refusedBy answerRefusal
 onPresent b (some p) = presentBody b p
 
 abbrev pub bondedBody : List ℕ → Found OptionBondResult
@@ -187,9 +190,20 @@ bondedAt s at = onFound (answerAt s at call.EnableBondedEncryption) bondedBody
 
 -- ---- the code's cases
 
+-- why there is no answer: the step wants one, or it is refused by 3
+abbrev pub stopFound : {A : Type 0} → Stop → Found A
+stopFound Wanted = wanted
+stopFound Refused = refusedBy answerRefusal
+
+-- .. and back; Wanted where there is an answer
+abbrev pub stopOf : {A : Type 0} → Found A → Stop
+stopOf (found a) = Wanted
+stopOf wanted = Wanted
+stopOf (refusedBy n) = Refused
+
 abbrev pub framed : List ℕ → ℕ → Frame → Found (List ℕ)
 framed s size (frame.Body b) = found (take size (drop b s))
-framed s size (frame.Stop e) = stopped e
+framed s size (frame.Stop e) = stopFound e
 
 -- a body that was found lies within the answers
 abbrev pub Within : List ℕ → ℕ → Frame → Type 0
@@ -198,44 +212,44 @@ Within s size (frame.Stop e) = Unit {0}
 
 abbrev pub verdictAnswer : VerdictAnswer → Found ℕ
 verdictAnswer (verdict.Verdict a) = found a
-verdictAnswer (verdict.Stop e) = stopped e
+verdictAnswer (verdict.Stop e) = stopFound e
 
 abbrev pub flagAnswer : FlagAnswer → Found Bool
 flagAnswer (flag.Flag a) = found a
-flagAnswer (flag.Stop e) = stopped e
+flagAnswer (flag.Stop e) = stopFound e
 
 abbrev pub irkAnswer : IrkAnswer → Found IdentityResolvingKey
 irkAnswer (irk.Irk a) = found a
-irkAnswer (irk.Stop e) = stopped e
+irkAnswer (irk.Stop e) = stopFound e
 
 abbrev pub addressAnswer : AddressAnswer → Found AddressResult
 addressAnswer (address.Address a) = found a
-addressAnswer (address.Stop e) = stopped e
+addressAnswer (address.Stop e) = stopFound e
 
 abbrev pub nonceAnswer : NonceAnswer → Found Nonce
 nonceAnswer (nonce.Nonce a) = found a
-nonceAnswer (nonce.Stop e) = stopped e
+nonceAnswer (nonce.Stop e) = stopFound e
 
 abbrev pub passKeyAnswer : PassKeyAnswer → Found PassKey
 passKeyAnswer (passkey.PassKey a) = found a
-passKeyAnswer (passkey.Stop e) = stopped e
+passKeyAnswer (passkey.Stop e) = stopFound e
 
 abbrev pub ltkAnswer : LongTermKeyAnswer → Found LongTermKey
 ltkAnswer (ltk.LongTermKey a) = found a
-ltkAnswer (ltk.Stop e) = stopped e
+ltkAnswer (ltk.Stop e) = stopFound e
 
 abbrev pub edivAnswer : EdivAnswer → Found ℕ
 edivAnswer (ediv.Ediv a) = found a
-edivAnswer (ediv.Stop e) = stopped e
+edivAnswer (ediv.Stop e) = stopFound e
 
 abbrev pub randAnswer : RandAnswer → Found ℕ
 randAnswer (rand.Rand a) = found a
-randAnswer (rand.Stop e) = stopped e
+randAnswer (rand.Stop e) = stopFound e
 
 abbrev pub encryptionAnswer : EncryptionAnswer → Found BondResult
 encryptionAnswer (encryption.Encryption a) = found a
-encryptionAnswer (encryption.Stop e) = stopped e
+encryptionAnswer (encryption.Stop e) = stopFound e
 
 abbrev pub bondedAnswer : BondedEncryptionAnswer → Found OptionBondResult
 bondedAnswer (bonded.BondedEncryption a) = found a
-bondedAnswer (bonded.Stop e) = stopped e
+bondedAnswer (bonded.Stop e) = stopFound e

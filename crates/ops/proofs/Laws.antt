@@ -8,14 +8,14 @@ use Rattle.bond.specs.declared.Error.{Error}
 use Rattle.host.specs.declared.call.Call.{Call}
 use Rattle.host.specs.declared.call.Trace.{Trace}
 use native.Mathlib.Omega.{arith}
-use Rattle.answer.specs.Answers.{Found, found, stopped as nothing, onFound, bodyAt, verdictAt, flagAt}
+use Rattle.answer.specs.Answers.{Found, found, wanted, refusedBy, onFound, bodyAt, verdictAt, flagAt, stopFound}
 use Rattle.answer.specs.declared.Stop.{Stop}
 use Rattle.answer.specs.declared.Stop.the-variants.{Wanted, Refused}
 use Rattle.protocol.specs.Program.{ret, ask, bind}
 use Rattle.protocol.specs.Ops.{Program, Reply, replySort, replyFound, taken, answerSize}
 use Rattle.protocol.proofs.Replies.{reads, Says, body-says}
 use Rattle.ops.specs.Run.{Ran, ended, stopped, andThen, onTaken, run, answerTo}
-use Rattle.ops.specs.Asked.{onHalt, ranDelivered, attemptedOf}
+use Rattle.ops.specs.Asked.{onHalt, ranDelivered, ranFound, attemptedOf}
 use Rattle.ops.specs.declared.Halt.{Halt}
 use Rattle.ops.specs.declared.Halt.the-variants as halt
 use Rattle.ops.specs.declared.Delivered.{Delivered}
@@ -68,11 +68,13 @@ answer-within c s at {x} e = reads .within c s at x (at + answerSize c) (ap (tak
 
 abbrev IsFound : {A : Type 0} → Found A → Type 0
 IsFound (found a) = Unit {0}
-IsFound (nothing e) = ⊥
+IsFound wanted = ⊥
+IsFound (refusedBy n) = ⊥
 
 found-body : {A : Type 0} (x : Found (List ℕ)) (f : List ℕ → Found A) {a : A} → onFound x f ≡ found a → (b : List ℕ) × (x ≡ found b)
 found-body (found b) f e = (b, refl)
-found-body (nothing z) f e = absurd (subst IsFound (sym e) tt)
+found-body wanted f e = absurd (subst IsFound (sym e) tt)
+found-body (refusedBy n) f e = absurd (subst IsFound (sym e) tt)
 
 body-within : (s : List ℕ) (at kind size : ℕ) {b : List ℕ} → bodyAt s at kind size ≡ found b → at + (1 + size) ≤ length s
 body-within s at kind size e =
@@ -88,6 +90,10 @@ unfolding flagAt
 flag-within s at kind e = body-within s at kind 1 (found-body (bodyAt s at kind 1) _ e .1)
 
 -- no answer: the run stops for the same reason
-pub none-taken : {X : Type 0} (t : Trace) (n : ℕ) (e : Stop) → onTaken {X = X} t (taken n (nothing e)) ≡ stopped e t
+pub none-taken : {X : Type 0} (t : Trace) (n : ℕ) (e : Stop) → onTaken {X = X} t (taken n (stopFound e)) ≡ stopped e t
 none-taken t n Wanted = refl
 none-taken t n Refused = refl
+
+pub ran-stop : {A : Type 0} (t : Trace) (e : Stop) → ranFound {A = A} t (stopFound e) ≡ stopped e t
+ran-stop t Wanted = refl
+ran-stop t Refused = refl

@@ -8,9 +8,9 @@ use Rattle.crypto.specs.declared.crypto.Nonce.{Nonce}
 use Rattle.types.specs.declared.types.PassKey.{PassKey}
 use Rattle.bond.specs.declared.Error.{Error}
 use Rattle.host.specs.declared.call.Trace.{Trace}
-use Rattle.answer.specs.Answers.{Found, found, stopped as nothing, flagAnswer, irkAnswer, nonceAnswer, passKeyAnswer, ltkAnswer, edivAnswer, randAnswer}
+use Rattle.answer.specs.Answers.{Found, found, wanted, refusedBy, flagAnswer, irkAnswer, nonceAnswer, passKeyAnswer, ltkAnswer, edivAnswer, randAnswer}
 use Rattle.answer.specs.declared.Stop.{Stop}
-use Rattle.answer.specs.declared.Stop.the-variants.{Wanted}
+use Rattle.answer.specs.declared.Stop.the-variants.{Wanted, Refused}
 use Rattle.answer.specs.declared.AddressResult.{AddressResult}
 use Rattle.answer.specs.declared.AddressResult.the-variants as address-result
 use Rattle.answer.specs.declared.BondResult.{BondResult}
@@ -58,7 +58,8 @@ ranSent r = ranDelivered (r .trace) (r .answer)
 -- an answer that no error stands for
 abbrev pub ranFound : {A : Type 0} → Trace → Found A → Ran A
 ranFound t (found a) = ended a t
-ranFound t (nothing e) = stopped e t
+ranFound t wanted = stopped Wanted t
+ranFound t (refusedBy n) = stopped Refused t
 
 abbrev pub ranFlag : AskedFlag → Ran Bool
 ranFlag r = ranFound (r .trace) (flagAnswer (r .answer))

@@ -11,14 +11,13 @@ use Rattle.host.specs.declared.call.ConnectionEvent.the-variants as notice
 use Rattle.host.specs.declared.call.Draw.the-variants as draw
 use Rattle.host.specs.declared.call.Packet.the-variants as packet
 use Rattle.host.specs.declared.call.Question.the-variants as question
-use Rattle.host.specs.declared.call.Trace.{Trace}
-use Rattle.answer.specs.Answers.{Found, found, stopped as nothing, flagAnswer}
 use Rattle.machine.specs.declared.Machine.{Machine}
 use Rattle.machine.specs.declared.PairingData.{PairingData}
 use Rattle.machine.specs.declared.Phase.the-variants as phase
 use Rattle.protocol.specs.Handlers.{Try, ok, Handler, _>>=_, _>>_, give, sendPacket, sendEvent, asked, drawn, commandOctets, namesIdentityKey, enters, confirmData, passKeyTk, withFeatures}
 use Rattle.protocol.specs.LegacyPeripheral.{bondLost, identityOffered, responseFeatures, beginMethod}
-use Rattle.ops.specs.Run.{Ran, ended, stopped}
+use Rattle.ops.specs.Run.{Ran, ended, andThen}
+use Rattle.ops.specs.Asked.{ranFlag}
 use Rattle.ops.specs.declared.AskedFlag.{AskedFlag}
 
 abbrev pub reportBondLost : Handler (Unit {0})
@@ -50,9 +49,6 @@ displayPassKey preq pres d = do
   sendEvent d (notice.PassKeyDisplay tk)
   give (enters phase.WaitingPairingConfirm (confirmData (passKeyTk (tk .0)) preq pres) d)
 
-abbrev pub ranAsked : Trace → Found Bool → Ran (Try Bool)
-ranAsked t (found b) = ended (ok b) t
-ranAsked t (nothing e) = stopped e t
-
+-- whether the identity key is offered, as a run
 abbrev pub ranOffered : AskedFlag → Ran (Try Bool)
-ranOffered r = ranAsked (r .trace) (flagAnswer (r .answer))
+ranOffered r = andThen (ranFlag r) (λ b t. ended (ok b) t)

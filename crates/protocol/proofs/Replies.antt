@@ -21,11 +21,10 @@ use Rattle.host.specs.declared.call.Draw.{Draw}
 use Rattle.host.specs.declared.call.Draw.the-variants as draw
 use Rattle.host.specs.declared.call.Call.{Call}
 use Rattle.host.specs.declared.call.Call.the-variants as call
-use Rattle.answer.specs.Answers.{answerLength, Found, found, stopped, onFound, allowed, bodyAt, answerAt, passKeyMax}
+use Rattle.answer.specs.Answers.{answerLength, Found, found, wanted, refusedBy, answerRefusal, onFound, allowed, bodyAt, answerAt, passKeyMax}
 use Rattle.answer.specs.Answers.{addressBody, passKeyBody, encryptionBody, bondedBody, onPresent}
 use Rattle.answer.specs.Answers.{verdictAt, flagAt, irkAt, addressAt, nonceAt, passKeyAt, ltkAt, edivAt, randAt}
 use Rattle.answer.specs.Answers.{encryptionAt, bondedAt}
-use Rattle.answer.specs.declared.Stop.the-variants.{Wanted, Refused}
 use Rattle.protocol.specs.Program.{Taken, got, wants, refused}
 use Rattle.protocol.specs.Ops.{Sort, aVerdict, aFlag, anIrk, anAddress, aNonce, aPassKey, anLtk, anEdiv, aRand}
 use Rattle.protocol.specs.Ops.{aBond, anOptionBond, deliveryOf, Holds, replySort, Reply, replyFound, taken}
@@ -53,7 +52,8 @@ meant c s at = onFound (answerAt s at c) (meaning (replySort c))
 verdict-meant : (x : Found (List ℕ))
     → onFound (onFound x (λ b. found (getD b 0 0))) (λ v. found (deliveryOf v)) ≡ onFound x (meaning aVerdict)
 verdict-meant (found b) = refl
-verdict-meant (stopped e) = refl
+verdict-meant wanted = refl
+verdict-meant (refusedBy n) = refl
 
 question-meant : (q : Question) (s : List ℕ) (at : ℕ)
     → replyFound (replySort (call.Ask q)) (call.Ask q) s at ≡ meant (call.Ask q) s at
@@ -119,8 +119,8 @@ answer-length (call.UpdateBondInformation b) = refl
 
 abbrev IsThere : {X : Type 0} → Found X → Type 0
 IsThere (found x) = Unit {0}
-IsThere (stopped Wanted) = ⊥
-IsThere (stopped Refused) = Unit {0}
+IsThere wanted = ⊥
+IsThere (refusedBy k) = Unit {0}
 
 allowed-there : {X Y : Type 0} (o : Option X) (f : X → Y) → IsThere (allowed o f)
 allowed-there none f = tt
@@ -152,8 +152,8 @@ meaning-there anOptionBond b = cond-there (eqb (getD b 0 0) 0) _ _ (present-ther
 
 abbrev pub Says : List ℕ → ℕ → ℕ → ℕ → Found (List ℕ) → Type 0
 Says s at kind size (found b) = (at + size < length s) × (getD s at 0 ≡ kind) × (take size (drop (at + 1) s) ≡ b)
-Says s at kind size (stopped Wanted) = at ≡ length s
-Says s at kind size (stopped Refused) = Unit {0}
+Says s at kind size wanted = at ≡ length s
+Says s at kind size (refusedBy k) = Unit {0}
 
 pub body-says : (s : List ℕ) (at kind size : ℕ) → Says s at kind size (bodyAt s at kind size)
 unfolding bodyAt
@@ -161,7 +161,7 @@ body-says s at kind size = go (eqb at (length s)) (ltb (at + size) (length s)) (
   where
     go : (x y z : Bool) → eqb at (length s) ≡ x → ltb (at + size) (length s) ≡ y → eqb (getD s at 0) kind ≡ z
         → Says s at kind size
-        (cond x (stopped Wanted) (cond (y && z) (found (take size (drop (at + 1) s))) (stopped Refused)))
+        (cond x wanted (cond (y && z) (found (take size (drop (at + 1) s))) (refusedBy answerRefusal)))
     go true y z p q r = eqb-true at (length s) p
     go false true true p q r = (ltb-true _ _ q, eqb-true _ _ r, refl)
     go false true false p q r = tt
@@ -174,7 +174,7 @@ body-stands s at kind size l e =
     let inside = ne-eqb at (length s) (λ (q : at ≡ length s). omega arith) in
     rw (inside, lt-ltb (at + size) (length s) l, eq-eqb (getD s at 0) kind e)
 
-body-at-end : (s : List ℕ) (kind size : ℕ) → bodyAt s (length s) kind size ≡ stopped Wanted
+body-at-end : (s : List ℕ) (kind size : ℕ) → bodyAt s (length s) kind size ≡ wanted
 unfolding bodyAt
 body-at-end s kind size = rw (eq-eqb (length s) (length s) refl)
 
@@ -210,30 +210,30 @@ IsWanted refused = ⊥
 
 got-next : {X : Type 0} (next : ℕ) (z : Found X) {x : X} {n : ℕ} → taken next z ≡ got x n → n ≡ next
 got-next next (found y) e = cc
-got-next next (stopped Wanted) e = absurd (subst IsGot (sym e) tt)
-got-next next (stopped Refused) e = absurd (subst IsGot (sym e) tt)
+got-next next wanted e = absurd (subst IsGot (sym e) tt)
+got-next next (refusedBy k) e = absurd (subst IsGot (sym e) tt)
 
 got-found : {X : Type 0} (next : ℕ) (z : Found X) {x : X} {n : ℕ} → taken next z ≡ got x n → z ≡ found x
 got-found next (found y) e = cc
-got-found next (stopped Wanted) e = absurd (subst IsGot (sym e) tt)
-got-found next (stopped Refused) e = absurd (subst IsGot (sym e) tt)
+got-found next wanted e = absurd (subst IsGot (sym e) tt)
+got-found next (refusedBy k) e = absurd (subst IsGot (sym e) tt)
 
 body-got : {X : Type 0} (next : ℕ) (y : Found (List ℕ)) (f : List ℕ → Found X) {x : X} {n : ℕ}
     → taken next (onFound y f) ≡ got x n → (b : List ℕ) × (y ≡ found b)
 body-got next (found b) f e = (b, refl)
-body-got next (stopped Wanted) f e = absurd (subst IsGot (sym e) tt)
-body-got next (stopped Refused) f e = absurd (subst IsGot (sym e) tt)
+body-got next wanted f e = absurd (subst IsGot (sym e) tt)
+body-got next (refusedBy k) f e = absurd (subst IsGot (sym e) tt)
 
 not-wanted : {X : Type 0} (next : ℕ) (z : Found X) → IsThere z → taken next z ≡ wants → ⊥
 not-wanted next (found y) h e = subst IsWanted (sym e) tt
-not-wanted next (stopped Wanted) h e = h
-not-wanted next (stopped Refused) h e = subst IsWanted (sym e) tt
+not-wanted next wanted h e = h
+not-wanted next (refusedBy k) h e = subst IsWanted (sym e) tt
 
 body-wanted : {X : Type 0} (next : ℕ) (y : Found (List ℕ)) (f : List ℕ → Found X) → ((b : List ℕ) → IsThere (f b))
-    → taken next (onFound y f) ≡ wants → y ≡ stopped Wanted
+    → taken next (onFound y f) ≡ wants → y ≡ wanted
 body-wanted next (found b) f h e = absurd (not-wanted next (f b) (h b) e)
-body-wanted next (stopped Wanted) f h e = refl
-body-wanted next (stopped Refused) f h e = absurd (subst IsWanted (sym e) tt)
+body-wanted next wanted f h e = refl
+body-wanted next (refusedBy k) f h e = absurd (subst IsWanted (sym e) tt)
 
 -- ---- the reply to one call
 

@@ -11,6 +11,7 @@ use Rattle.octets.specs.Octets.{writeAt}
 use Rattle.types.specs.Types.{commandOf}
 use Rattle.host.specs.Calls.{callsOctets, longest}
 use Rattle.host.specs.declared.call.Call.{Call}
+use Rattle.answer.specs.Answers.{answerRefusal}
 use Rattle.machine.specs.declared.Input.{Input}
 use Rattle.machine.specs.declared.Input.the-variants as input
 use Rattle.machine.specs.declared.Machine.{Machine}
@@ -58,7 +59,7 @@ reports o m list calls read =
 abbrev pub stepped : Machine → List ℕ → List Call → ℕ → Ending Machine → Step
 stepped m list calls read (ended m₁) = reports outcome.Ended m₁ list calls read
 stepped m list calls read wanting = reports outcome.Wants m list calls read
-stepped m list calls read refusing = refusedBy 3 m list
+stepped m list calls read refusing = refusedBy answerRefusal m list
 
 abbrev pub isAccepted : {A : Type 0} → Answer A → Bool
 isAccepted (refused n) = false

@@ -6,7 +6,7 @@ use lib.Dec.{lit<}
 use borrow.Author.Tests.{eq-eqb, ne-eqb}
 use Rattle.octets.proofs.Lists.{within-part, element-of-part}
 use Rattle.answer.specs.Answers.{bondedAt}
-use Rattle.answer.proofs.Answering.{body-found, body-stopped, body-within, first-octet, not-back}
+use Rattle.answer.proofs.Answering.{body-found, body-stopped, on-stop, body-within, first-octet, not-back}
 use borrow.Author.Needs.{needs}
 use Rattle.answer.proofs.read_bonded_encryption.Statement.{statement}
 use Rattle.answer.proofs.read_bonded_encryption.Tie as tie
@@ -120,7 +120,7 @@ returns-6 : tie.Need-returns-6
 unfolding bondedAt
 returns-6 c =
     let found = c .before in
-    rw (body-stopped _ _ _ (found .before .before .frame-at .ensures .0) (found .stop .given .1))
+    rw (body-stopped _ _ _ (found .before .before .frame-at .ensures .0) (found .stop .given .1), on-stop)
 
 pub read-bonded-encryption-spec : {M : Type 1} → statement M
 read-bonded-encryption-spec =

@@ -4,7 +4,7 @@ use lib.Dec.{lit<}
 use borrow.Author.Tests.{eq-eqb, ne-eqb}
 use Rattle.octets.proofs.Lists.{within-part}
 use Rattle.answer.specs.Answers.{encryptionAt}
-use Rattle.answer.proofs.Answering.{body-found, body-stopped, body-within, first-octet}
+use Rattle.answer.proofs.Answering.{body-found, body-stopped, on-stop, body-within, first-octet}
 use borrow.Author.Needs.{needs}
 use Rattle.answer.proofs.read_encryption.Statement.{statement}
 use Rattle.answer.proofs.read_encryption.Tie as tie
@@ -68,7 +68,7 @@ returns-4 : tie.Need-returns-4
 unfolding encryptionAt
 returns-4 c =
     let found = c .before in
-    rw (body-stopped _ _ _ (found .before .before .frame-at .ensures .0) (found .stop .given .1))
+    rw (body-stopped _ _ _ (found .before .before .frame-at .ensures .0) (found .stop .given .1), on-stop)
 
 pub read-encryption-spec : {M : Type 1} → statement M
 read-encryption-spec =

@@ -4,7 +4,7 @@ use lib.Dec.{lit<}
 use borrow.Author.Tests.{eq-eqb, ne-eqb}
 use Rattle.octets.proofs.Lists.{within-part}
 use Rattle.answer.specs.Answers.{addressAt}
-use Rattle.answer.proofs.Answering.{body-found, body-stopped, body-within, first-octet}
+use Rattle.answer.proofs.Answering.{body-found, body-stopped, on-stop, body-within, first-octet}
 use borrow.Author.Needs.{needs}
 use Rattle.answer.proofs.read_identity_address.Statement.{statement}
 use Rattle.answer.proofs.read_identity_address.Tie as tie
@@ -59,6 +59,7 @@ returns-3 c =
       ← c .before .before .before .before .kind .ensures,
       let found = c .before in
           body-stopped _ _ _ (found .before .before .frame-at .ensures .0) (found .stop .given .1),
+      on-stop,
     )
 
 pub read-identity-address-spec : {M : Type 1} → statement M

@@ -2,7 +2,7 @@
 use native.Mathlib.Omega.{arith}
 use borrow.Author.Tests.{lt-ltb, le-ltb}
 use Rattle.answer.specs.Answers.{passKeyAt}
-use Rattle.answer.proofs.Answering.{body-found, body-stopped, body-within}
+use Rattle.answer.proofs.Answering.{body-found, body-stopped, on-stop, body-within}
 use borrow.Author.Needs.{needs}
 use Rattle.answer.proofs.read_passkey.Statement.{statement}
 use Rattle.answer.proofs.read_passkey.Tie as tie
@@ -42,6 +42,7 @@ returns-3 c =
       ← c .before .before .before .before .kind .ensures,
       let found = c .before in
           body-stopped _ _ _ (found .before .before .frame-at .ensures .0) (found .stop .given .1),
+      on-stop,
     )
 
 pub read-passkey-spec : {M : Type 1} → statement M

@@ -2,7 +2,7 @@
 use native.Mathlib.Omega.{arith}
 use lib.Dec.{lit<}
 use Rattle.answer.specs.Answers.{verdictAt}
-use Rattle.answer.proofs.Answering.{body-found, body-stopped, body-within, first-octet}
+use Rattle.answer.proofs.Answering.{body-found, body-stopped, on-stop, body-within, first-octet}
 use borrow.Author.Needs.{needs}
 use Rattle.answer.proofs.read_verdict.Statement.{statement}
 use Rattle.answer.proofs.read_verdict.Tie as tie
@@ -23,7 +23,7 @@ returns-2 : tie.Need-returns-2
 unfolding verdictAt
 returns-2 c =
     let found = c .before in
-    rw (body-stopped _ _ _ (found .before .before .frame-at .ensures .0) (found .stop .given .1))
+    rw (body-stopped _ _ _ (found .before .before .frame-at .ensures .0) (found .stop .given .1), on-stop)
 
 pub read-verdict-spec : {M : Type 1} → statement M
 read-verdict-spec =

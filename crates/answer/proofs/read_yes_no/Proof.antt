@@ -2,7 +2,7 @@
 use native.Mathlib.Omega.{arith}
 use lib.Dec.{lit<}
 use Rattle.answer.specs.Answers.{flagAt}
-use Rattle.answer.proofs.Answering.{body-found, body-stopped, body-within, first-octet}
+use Rattle.answer.proofs.Answering.{body-found, body-stopped, on-stop, body-within, first-octet}
 use borrow.Author.Needs.{needs}
 use Rattle.answer.proofs.read_yes_no.Statement.{statement}
 use Rattle.answer.proofs.read_yes_no.Tie as tie
@@ -44,6 +44,7 @@ returns-3 c =
       ← c .before .before .before .before .kind .ensures,
       let found = c .before in
           body-stopped _ _ _ (found .before .before .frame-at .ensures .0) (found .stop .given .1),
+      on-stop,
     )
 
 pub read-yes-no-spec : {M : Type 1} → statement M

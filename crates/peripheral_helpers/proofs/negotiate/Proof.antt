@@ -1,5 +1,6 @@
 -- `peripheral_helpers::negotiate` meets its contract. Assumes nothing.
-use Rattle.ops.proofs.Laws.{run-bind}
+use Rattle.answer.proofs.Answering.{stop-back}
+use Rattle.ops.proofs.Laws.{run-bind, ran-stop}
 use Rattle.handlers.specs.Outcomes.{dataOf}
 use borrow.Author.Needs.{needs}
 use Rattle.peripheral_helpers.proofs.negotiate.Statement.{statement}
@@ -7,15 +8,15 @@ use Rattle.peripheral_helpers.proofs.negotiate.Tie as tie
 
 returns : tie.Need-returns
 unfolding dataOf
-returns c = rw (c .no-answer .ensures, run-bind, ← c .before .before .before .before .identity-key-offered .ensures, c .before .enum-told .given .1)
+returns c = rw (c .no-answer .ensures, run-bind, ← c .before .before .before .before .identity-key-offered .ensures, c .before .enum-told .given .1, ran-stop, stop-back)
 
 returns-2 : tie.Need-returns-2
 unfolding dataOf
-returns-2 c = rw (c .no-answer2 .ensures, run-bind, ← c .before .before .before .before .before .before .before .before .before .identity-key-offered .ensures, c .before .before .before .before .before .before .answer1 .given .1, ← c .before .before .before .before .bonding-flag .ensures, c .before .enum-told2 .given .1)
+returns-2 c = rw (c .no-answer2 .ensures, run-bind, ← c .before .before .before .before .before .before .before .before .before .identity-key-offered .ensures, c .before .before .before .before .before .before .answer1 .given .1, ← c .before .before .before .before .bonding-flag .ensures, c .before .enum-told2 .given .1, ran-stop, stop-back)
 
 returns-3 : tie.Need-returns-3
 unfolding dataOf
-returns-3 c = rw (c .no-answer3 .ensures, run-bind, ← c .before .before .before .before .before .before .before .before .before .before .before .before .before .before .identity-key-offered .ensures, c .before .before .before .before .before .before .before .before .before .before .before .answer1 .given .1, ← c .before .before .before .before .before .before .before .before .before .bonding-flag .ensures, c .before .before .before .before .before .before .answer2 .given .1, ← c .before .before .before .before .oob-available .ensures, c .before .enum-told3 .given .1)
+returns-3 c = rw (c .no-answer3 .ensures, run-bind, ← c .before .before .before .before .before .before .before .before .before .before .before .before .before .before .identity-key-offered .ensures, c .before .before .before .before .before .before .before .before .before .before .before .answer1 .given .1, ← c .before .before .before .before .before .before .before .before .before .bonding-flag .ensures, c .before .before .before .before .before .before .answer2 .given .1, ← c .before .before .before .before .oob-available .ensures, c .before .enum-told3 .given .1, ran-stop, stop-back)
 
 returns-4 : tie.Need-returns-4
 unfolding dataOf
