@@ -6,6 +6,7 @@ use lib.ListN.{length}
 use Rattle.octets.specs.Octets.{writeAt}
 use Rattle.host.specs.Calls.{listed}
 use Rattle.host.specs.declared.call.Trace.{Trace}
+use Rattle.answer.specs.Answers.{answerRefusal}
 use Rattle.answer.specs.declared.Stop.the-variants.{Wanted, Refused}
 use Rattle.machine.specs.declared.Machine.{Machine}
 use Rattle.protocol.specs.declared.Outcome.{Outcome}
@@ -32,7 +33,7 @@ listing o m list t =
 abbrev pub reportedBy : Machine → List ℕ → Trace → Machine → Finish → Step
 reportedBy m list t m₁ finish.Ended = listing outcome.Ended m₁ list t
 reportedBy m list t m₁ (finish.Stop Wanted) = listing outcome.Wants m list t
-reportedBy m list t m₁ (finish.Stop Refused) = refusedBy 3 m list
+reportedBy m list t m₁ (finish.Stop Refused) = refusedBy answerRefusal m list
 
 abbrev pub reported : Machine → List ℕ → Finished → Step
 reported m list f = reportedBy m list (f .trace) (f .machine) (f .finish)
