@@ -19,7 +19,7 @@ use Rattle.machine.specs.declared.Role.{Role}
 use Rattle.machine.specs.declared.Role.the-variants.{Central, Peripheral}
 use Rattle.protocol.specs.Handlers.{namesEncryptionKey, namesIdentityKey}
 use Rattle.protocol.specs.FairLink.{Start, FairStart, Shared, QueuedPacket, Due, Given, aPacket, anEvent, Link, endOf, freshLink, callsAt, linkAfter, MoveKind, anInput, aReRun, Move, takePacket, takeEvent, runAgain, countInput, Moves, noMove, move, Run, Idle}
-use Rattle.protocol.specs.FairRuns.{typesAs, entries, bothBond, countNamed, keysNamed, keys, displayIn, displaysIn, AreAll, RunEnds, EveryFairRunEnds}
+use Rattle.protocol.specs.FairRuns.{typesAs, entries, bothBond, countNamed, keysNamed, keys, displayIn, displaysIn, shownAs, shownAt, AreAll, RunEnds, EveryFairRunEnds}
 use Rattle.protocol.proofs.Codes.{code-known}
 use Rattle.protocol.proofs.Exchange.{Empty}
 use Rattle.protocol.proofs.InStep.{start}
@@ -114,6 +114,29 @@ are-all-front : (n : ℕ) (l more : List ℕ) → AreAll n (l ++ more) → AreAl
 are-all-front n [] more h = tt
 are-all-front n (x ∷ l) more h = (h .0, are-all-front n l more (h .1))
 
+-- what the method has an end show is this number
+shown-as : (a : PassKeyEntryAction) (n : ℕ) → AreAll n (shownAs a n)
+shown-as action.Display n = (refl, tt)
+shown-as action.Input n = tt
+
+shown-at : (r : Role) (way : PairingMethod) (n : ℕ) → AreAll n (shownAt r way n)
+shown-at r method.JustWorks n = tt
+shown-at r method.NumericComparison n = tt
+shown-at Central (method.PassKeyEntry central peripheral) n = shown-as central n
+shown-at Peripheral (method.PassKeyEntry central peripheral) n = shown-as peripheral n
+shown-at r method.OutOfBand n = tt
+
+-- at the end of a run
+shown-at-last :
+    {shared : Shared} {request : PairingFeatures} {inputs : ℕ} {L : Link} (r : Role) →
+    RunEnds shared request inputs L → AreAll (shared .shown) (displaysIn (endOf r L .calls))
+shown-at-last {shared} {request} Central h =
+    subst (AreAll (shared .shown)) (sym (h .terminalDisplays))
+    (shown-at Central (legacyMethod request (h .answer)) (shared .shown))
+shown-at-last {shared} {request} Peripheral h =
+    subst (AreAll (shared .shown)) (sym (h .headDisplays))
+    (shown-at Peripheral (legacyMethod request (h .answer)) (shared .shown))
+
 -- of the calls by now, by those later
 shown-before :
     (n : ℕ) (calls more later : List Call) → later ≡ calls ++ more → AreAll n (displaysIn later) →
@@ -160,7 +183,7 @@ module _ (shared : Shared) (s : Start) where
         (idle-machine shared s (L .terminal .machine) (o .machine) (L .terminal .openStep) (o .isIdle))
         (idle-machine shared s (L .head .machine) (o .machine₁) (L .head .openStep) (o .isIdle₁)) (o .goal)
 
-    run-ends : RunEnds (s .request) n L
+    run-ends : RunEnds shared (s .request) n L
     run-ends =
         record {
           terminalIdle =
@@ -181,15 +204,12 @@ module _ (shared : Shared) (s : Start) where
           encryption = agreed .encryption;
           terminalEncrypts = agreed .terminalEncrypts;
           headEncrypts = agreed .headEncrypts;
+          terminalDisplays = agreed .terminalDisplays;
+          headDisplays = agreed .headDisplays;
           terminalEnds = agreed .terminalEnds;
           headEnds = agreed .headEnds;
           sameBonds = agreed .sameBonds;
         }
-
-    -- what each end has shown by then
-    all-shown : (r : Role) → AreAll (shared .shown) (displaysIn (endOf r L .calls))
-    all-shown Central = agreed .terminalShows
-    all-shown Peripheral = agreed .headShows
 
     few-inputs : n ≤ 18
     few-inputs =
@@ -211,8 +231,8 @@ module _ (shared : Shared) (s : Start) where
   -- from ends in step, moves lead to where all is over
   abbrev Finishes : (n : ℕ) → Link → Type 0
   Finishes n L =
-      (moves : ℕ) × (inputs : ℕ) × (L₁ : Link) × Run shared L moves inputs L₁ × RunEnds (s .request) (n + inputs) L₁
-      × (n + inputs ≤ 18) × ((r : Role) → AreAll (shared .shown) (displaysIn (endOf r L₁ .calls)))
+      (moves : ℕ) × (inputs : ℕ) × (L₁ : Link) × Run shared L moves inputs L₁ × RunEnds shared (s .request) (n + inputs) L₁
+      × (n + inputs ≤ 18)
 
   here-finished : (L : Link) (d e n : ℕ) (h : LinkInStep shared s d e n L) → AllOver shared s h → Finishes n L
   here-finished L d e n h o =
@@ -221,9 +241,8 @@ module _ (shared : Shared) (s : Start) where
         0,
         L,
         record { all = noMove; over = over-still L d e n h o },
-        subst (λ k. RunEnds (s .request) k L) same (run-ends L d e n h o),
+        subst (λ k. RunEnds shared (s .request) k L) same (run-ends L d e n h o),
         omega (arith, few-inputs L d e n h o),
-        all-shown L d e n h o,
       )
 
   then-finishes : (n : ℕ) (L : Link) (m : Moving shared s L) → Finishes (countInput (m .0) n) (m .1) → Finishes n L
@@ -233,9 +252,8 @@ module _ (shared : Shared) (s : Start) where
         countInput (m .0) (y .1),
         y .2,
         record { all = move (m .2) (y .3 .all); over = y .3 .over },
-        subst (λ k. RunEnds (s .request) k (y .2)) same (y .4),
+        subst (λ k. RunEnds shared (s .request) k (y .2)) same (y .4),
         subst (λ k. k ≤ 18) same (y .5),
-        y .6,
       )
 
   finishes : (b : ℕ) (L : Link) (d e n : ℕ) → d + e ≤ b → LinkInStep shared s d e n L → Finishes n L
@@ -281,16 +299,16 @@ module _ (shared : Shared) (s : Start) where
       then-ends : Finishes (0 + inputs) L
       then-ends = finishes (in-step .0 + in-step .1) L (in-step .0) (in-step .1) (0 + inputs) (omega arith) (in-step .3)
 
-    comes-to : (moves inputs : ℕ) (L : Link) → Run shared (freshLink s) moves inputs L → RunEnds (s .request) inputs L
+    comes-to : (moves inputs : ℕ) (L : Link) → Run shared (freshLink s) moves inputs L → RunEnds shared (s .request) inputs L
     comes-to moves inputs L x =
         let z = in-step moves inputs L (x .all) in
         let none-left = goes-on shared s L (z .0) (z .1) (0 + inputs) (z .3) in
         go (z .0) (z .1) (z .3) none-left
       where
         go : (d e : ℕ) (h : LinkInStep shared s d e (0 + inputs) L) → Moving shared s L ⊎ AllOver shared s h →
-            RunEnds (s .request) inputs L
+            RunEnds shared (s .request) inputs L
         go d e h (inl m) = absurd (x .over (m .0) (m .1) (m .2))
-        go d e h (inr o) = subst (λ k. RunEnds (s .request) k L) (omega arith) (run-ends L d e (0 + inputs) h o)
+        go d e h (inr o) = subst (λ k. RunEnds shared (s .request) k L) (omega arith) (run-ends L d e (0 + inputs) h o)
 
 -- the claim
 pub every-fair-run-ends : EveryFairRunEnds
@@ -302,9 +320,10 @@ every-fair-run-ends s fair = (
     accepted = λ moves inputs L x. let z = in-step shared s fair moves inputs L x in
         not-refused-move shared s L (z .0) (z .1) (0 + inputs) (z .3);
     fewInputs = λ moves inputs L x. let z = then-ends shared s fair moves inputs L x in omega (arith, z .5);
-    shows = λ moves inputs L x r. let z = then-ends shared s fair moves inputs L x in
+    displays = λ moves inputs L x r. let z = then-ends shared s fair moves inputs L x in
         let grown = calls-grow r (z .3 .all) in
-        shown-before (shared .shown) (endOf r L .calls) (grown .0) (endOf r (z .2) .calls) (grown .1) (z .6 r);
+        shown-before (shared .shown) (endOf r L .calls) (grown .0) (endOf r (z .2) .calls) (grown .1)
+        (shown-at-last r (z .4));
     comesTo = λ moves inputs L x. comes-to shared s fair moves inputs L x;
   },
 )

@@ -17,7 +17,7 @@ use Rattle.protocol.specs.Program.{Ending, ended, wanting, refusing, Pla
 use Rattle.protocol.specs.Ops.{replyAt, Program}
 use Rattle.protocol.specs.Step.{handleInput, playOf, isKnown, stepped, step}
 use Rattle.protocol.specs.FairLink.{Start, Shared, FairAnswers, QueuedPacket, Due, passKey, oobData, encryptionOn, Given, aPacket, anEvent, inputOf, payloadOf, OpenStep, End, Link, ofAll, sentBy, hasListed, madeDueBy, madeDueByAll, machineAt, stepAt, FairHost, openAfter}
-use Rattle.protocol.specs.FairRuns.{responseIn, ltkIn, identificationIn, displayIn, encryptionIn, NotRefused}
+use Rattle.protocol.specs.FairRuns.{responseIn, ltkIn, edivRandIn, displayIn, encryptionIn, NotRefused}
 use Rattle.protocol.proofs.Codes.{code-known}
 use Rattle.protocol.proofs.Programs.{along}
 use Rattle.protocol.proofs.Exchange.{optional, System, Local, locally, noteAll}
@@ -66,7 +66,7 @@ summary-listed before c =
       listed-last encryptionIn before c,
       listed-last responseIn before c,
       listed-last ltkIn before c,
-      listed-last identificationIn before c,
+      listed-last edivRandIn before c,
       listed-last displayIn before c,
     ) refl
 

@@ -28,6 +28,7 @@ use Rattle.machine.specs.declared.ConfirmPhaseData.{ConfirmPhaseData}
 use Rattle.machine.specs.declared.Machine.{Machine}
 use Rattle.machine.specs.declared.PairingData.{PairingData}
 use Rattle.machine.specs.declared.Phase.the-variants as phase
+use Rattle.machine.specs.declared.Role.the-variants.{Peripheral}
 use Rattle.protocol.specs.Program.{ret, bind}
 use Rattle.protocol.specs.Ops.{aNonce}
 use Rattle.protocol.specs.Handlers.{Handler, _>>=_, _>>_, asked, sendPacket, wordIn, namesEncryptionKey}
@@ -45,14 +46,14 @@ use Rattle.protocol.specs.LegacyPeripheral.{«handle_central_identificat
 use Rattle.protocol.specs.LegacyPeripheral.{«handle_identity_address_information», transition, «handle_input»}
 use Rattle.protocol.specs.Step.{playOf, step}
 use Rattle.protocol.specs.FairLink.{Start, FairStart, freshHead, Shared, shows, Due, passKey, encryptionOn}
-use Rattle.protocol.specs.FairRuns.{countNamed, Encryption, onIdentityInformation, WaitsForIdentityKey, excepted}
+use Rattle.protocol.specs.FairRuns.{countNamed, shownAt, Encryption, onIdentityInformation, WaitsForIdentityKey, excepted}
 use Rattle.protocol.proofs.Exchange.{opener, replier, Local, quiet, says, takes, urgently, owing, either}
 use Rattle.protocol.proofs.Exchange.{signalling, finished}
 use Rattle.protocol.proofs.Payloads.{some-word, word-in, features-in, identification-in, address-in}
 use Rattle.protocol.proofs.Payloads.{encryption-named, identity-named}
 use Rattle.protocol.proofs.FairReplies.{FairData}
 use Rattle.protocol.proofs.Pairing.{pairing, plus, headEntries, inputsOfHead, Answer, SentKeys, sentKeys, HeadFollows}
-use Rattle.protocol.proofs.Pairing.{Entry, noEntry, typedEntry, shownEntry, oobEntry, having}
+use Rattle.protocol.proofs.Pairing.{Entry, noEntry, typedEntry, oobEntry, shownEntry, unchosen, having}
 use Rattle.protocol.proofs.Pairing.{tkOf, chosen, both, preq, pres, confirmOf, Keeps, SentIfClaimed, HeadDone}
 use Rattle.protocol.proofs.Pairing.{ending, identityKey, terminalEncryption, terminalKeys, headKeys, afterSrand}
 use Rattle.protocol.proofs.Pairing.{afterSconfirm, afterMconfirm, confirms, afterResponse, afterRequest}
@@ -109,7 +110,7 @@ module _ (shared : Shared) (s : Start) (a : Answer s) where
 
   -- ---- once encryption is called for
 
-  module _ (e : Encryption) (entry : Entry shared) where
+  module _ (e : Encryption) (entry : Entry shared Peripheral (chosen s a)) where
     -- .. the head has sent keys of its own, or none
     abbrev encryptedWith : Option SentKeys → List Due → ℕ → Local (pairing shared)
     encryptedWith keys due n = having shared entry true (e ∷ []) (a .features ∷ []) keys due n
@@ -140,7 +141,7 @@ module _ (shared : Shared) (s : Start) (a : Answer s) where
                   stored = (b, refl, k);
                   sentLtk = refl;
                   sentIdentification = refl;
-                  shows = entry .areShared;
+                  displays = entry .asShown;
                 }
 
             go : (bonds : Bool) →
@@ -221,7 +222,7 @@ module _ (shared : Shared) (s : Start) (a : Answer s) where
           stored = (b, refl, tt);
           sentLtk = refl;
           sentIdentification = refl;
-          shows = entry .areShared;
+          displays = entry .asShown;
         })
     sends-none d n b due p all false q = enters-success (rw (p, q)) none due d n _ b tt all
 
@@ -253,7 +254,7 @@ module _ (shared : Shared) (s : Start) (a : Answer s) where
 
   -- ---- before that: confirm values and nonces
 
-  abbrev unencrypted : Entry shared → List Due → ℕ → Local (pairing shared)
+  abbrev unencrypted : {way : PairingMethod} → Entry shared Peripheral way → List Due → ℕ → Local (pairing shared)
   unencrypted entry due n = having shared entry false [] (a .features ∷ []) none due n
 
   -- the confirm data with a temporary key
@@ -270,7 +271,7 @@ module _ (shared : Shared) (s : Start) (a : Answer s) where
 
   -- Mrand agrees with Mconfirm: Srand goes out, and encryption is called for
   takes-mrand :
-      (d n : ℕ) (entry : Entry shared) (mrand : FairData aNonce) (srand : Nonce) →
+      (d n : ℕ) (entry : Entry shared Peripheral (chosen s a)) (mrand : FairData aNonce) (srand : Nonce) →
       n ≡ 2 + headEntries (chosen s a) →
       HeadFollows shared s (plus 20 d) (afterSconfirm shared s a (mrand .0) srand) (unencrypted entry [] n)
       (ret (enters (phase.WaitingPairingRandom (confirmOf shared s a (mrand .0)))
@@ -282,7 +283,7 @@ module _ (shared : Shared) (s : Start) (a : Answer s) where
 
   -- Sconfirm goes out, where the temporary key is the method's
   sends-sconfirm :
-      (d n : ℕ) (entry : Entry shared) (mrand : FairData aNonce) (tk : Word128) →
+      (d n : ℕ) (entry : Entry shared Peripheral (chosen s a)) (mrand : FairData aNonce) (tk : Word128) →
       n ≡ 2 + headEntries (chosen s a) → tkOf shared (chosen s a) ≡ tk →
       HeadFollows shared s (plus 22 d) (afterMconfirm shared s a mrand) (unencrypted entry [] n)
       (bind (answerConfirm (keyed tk) (headData option.None) (confirmOf shared s a (mrand .0))) entered)
@@ -300,7 +301,7 @@ module _ (shared : Shared) (s : Start) (a : Answer s) where
 
   -- Mconfirm is answered at once, where the temporary key is there
   takes-mconfirm :
-      (d n : ℕ) (entry : Entry shared) (tk : Word128) → n ≡ 1 + headEntries (chosen s a) →
+      (d n : ℕ) (entry : Entry shared Peripheral (chosen s a)) (tk : Word128) → n ≡ 1 + headEntries (chosen s a) →
       tkOf shared (chosen s a) ≡ tk →
       HeadFollows shared s (plus 23 d) (confirms shared s a) (unencrypted entry [] n)
       (ret (enters phase.WaitingPairingConfirm (keyed tk) (headData option.None)))
@@ -310,31 +311,31 @@ module _ (shared : Shared) (s : Start) (a : Answer s) where
 
   -- the passkey is typed, before Mconfirm comes or after
   takes-passkey :
-      (d : ℕ) → headEntries (chosen s a) ≡ 1 →
+      (d : ℕ) (none-shown : [] ≡ shownAt Peripheral (chosen s a) (shared .shown)) → headEntries (chosen s a) ≡ 1 →
       tkOf shared (chosen s a) ≡ passKeyTk (cond (shows (chosen s a)) (shared .shown) (shared .typed)) →
-      HeadFollows shared s (plus 24 d) (confirms shared s a) (unencrypted (typedEntry shared) (passKey ∷ []) 1)
+      HeadFollows shared s (plus 24 d) (confirms shared s a) (unencrypted {way = chosen s a} (typedEntry shared none-shown) (passKey ∷ []) 1)
       (ret (enters (phase.WaitingPassKeyInput stored.None) (keyed zeroWord) (headData option.None)))
   unfolding «handle_input» transition «handle_pass_key_input» «store_confirm_bytes» enter
-  takes-passkey d one e =
-      either refl refl refl (takes-mconfirm d 2 (typedEntry shared) _ (omega arith) e)
+  takes-passkey d none-shown one e =
+      either refl refl refl (takes-mconfirm d 2 (typedEntry shared none-shown) _ (omega arith) e)
       (λ mrand. rw (confirm-in (mrand .0))
-      (owing refl refl refl (sends-sconfirm d 3 (typedEntry shared) mrand _ (omega arith) e)))
+      (owing refl refl refl (sends-sconfirm d 3 (typedEntry shared none-shown) mrand _ (omega arith) e)))
 
   -- the method begins
   begins-method :
       (d : ℕ) (m : PairingMethod) → chosen s a ≡ m →
-      HeadFollows shared s (plus 25 d) (afterResponse shared s a m) (unencrypted (noEntry shared) [] 1)
+      HeadFollows shared s (plus 25 d) (afterResponse shared s a m) (unencrypted (unchosen shared Peripheral) [] 1)
       (bind (beginMethod (preq s a) (pres s a) (headData option.None) m) entered)
   unfolding beginMethod enter «handle_input» transition
-  begins-method d method.JustWorks e = takes-mconfirm (plus 2 d) 1 (noEntry shared) _ (rw e) (rw e)
+  begins-method d method.JustWorks e = takes-mconfirm (plus 2 d) 1 (noEntry shared (rw e)) _ (rw e) (rw e)
   begins-method d method.NumericComparison e = absurd (never-numeric (s .request) (a .features) e)
   begins-method d (method.PassKeyEntry action.Display action.Display) e =
-      quiet refl λ u. quiet refl λ v. takes-mconfirm d 1 (shownEntry shared) _ (rw e) (rw e)
+      quiet refl λ u. quiet refl λ v. takes-mconfirm d 1 (shownEntry shared (rw e)) _ (rw e) (rw e)
   begins-method d (method.PassKeyEntry action.Input action.Display) e =
-      quiet refl λ u. quiet refl λ v. takes-mconfirm d 1 (shownEntry shared) _ (rw e) (rw e)
-  begins-method d (method.PassKeyEntry central action.Input) e = quiet refl λ u. takes-passkey d (rw e) (rw e)
+      quiet refl λ u. quiet refl λ v. takes-mconfirm d 1 (shownEntry shared (rw e)) _ (rw e) (rw e)
+  begins-method d (method.PassKeyEntry central action.Input) e = quiet refl λ u. takes-passkey d (rw e) (rw e) (rw e)
   begins-method d method.OutOfBand e =
-      quiet refl λ u. signalling refl refl refl (takes-mconfirm d 2 (oobEntry shared) _ (rw e) (rw e))
+      quiet refl λ u. signalling refl refl refl (takes-mconfirm d 2 (oobEntry shared (rw e)) _ (rw e) (rw e))
 
 -- ---- the request, and the answer to it
 
@@ -373,7 +374,7 @@ module _ (shared : Shared) (s : Start) (fair : FairStart s) where
     fromNamed named
 
   abbrev requested : Local (pairing shared)
-  requested = having shared (noEntry shared) false [] [] none [] 1
+  requested = having shared (unchosen shared Peripheral) false [] [] none [] 1
 
   -- the response is sent
   sends-response :
@@ -401,7 +402,7 @@ module _ (shared : Shared) (s : Start) (fair : FairStart s) where
 pub head-follows :
     (shared : Shared) (s : Start) (d : ℕ) → FairStart s →
     HeadFollows shared s (plus 32 d) (wholeExchange shared s)
-    (having shared (noEntry shared) false [] [] none [] 0)
+    (having shared (unchosen shared Peripheral) false [] [] none [] 0)
     (ret (freshHead s))
 unfolding freshHead newMachine «handle_input» transition «handle_pairing_request» answerBy
 head-follows shared s d fair =

@@ -36,7 +36,7 @@ use Rattle.protocol.specs.Ops.{aNonce, anLtk, anEdiv, aRand, replySort, 
 use Rattle.protocol.specs.Handlers.{commandOctets, namesEncryptionKey, namesIdentityKey, passKeyTk, «addr_type_flag»}
 use Rattle.protocol.specs.Step.{handleInput}
 use Rattle.protocol.specs.FairLink.{Start, AreOctets, Shared, shows, FairAnswers, QueuedPacket, Due, passKey, oobData, encryptionOn, Given, aPacket, anEvent, inputOf, payloadOf, requestOf, sentBy, hasListed, reportDue}
-use Rattle.protocol.specs.FairRuns.{typesAs, entries, bothBond, countNamed, keysNamed, keys, responseIn, responsesIn, ltkIn, ltksIn, Identification, identificationIn, identificationsIn, displayIn, displaysIn, Encryption, encryptionIn, encryptionsIn, excepted, HeadEnds, negotiated, HoldsKeys, SameBonds, AreAll}
+use Rattle.protocol.specs.FairRuns.{typesAs, entries, bothBond, countNamed, keysNamed, keys, responseIn, responsesIn, ltkIn, ltksIn, Identification, edivRandIn, edivRandsIn, displayIn, displaysIn, Encryption, encryptionIn, encryptionsIn, excepted, HeadEnds, negotiated, HoldsKeys, SameBonds, shownAt}
 use Rattle.protocol.proofs.Exchange.{Party, opener, replier, System, Local, Protocol, Follows, Program}
 use Rattle.protocol.proofs.FairReplies.{FairData, fairly}
 
@@ -67,7 +67,7 @@ summary cs =
       encryptions = encryptionsIn cs;
       responses = responsesIn cs;
       ltks = ltksIn cs;
-      identifications = identificationsIn cs;
+      identifications = edivRandsIn cs;
       displays = displaysIn cs;
     }
 
@@ -86,7 +86,7 @@ listed c x =
       encryptions = withNew (x .encryptions) (encryptionIn c);
       responses = withNew (x .responses) (responseIn c);
       ltks = withNew (x .ltks) (ltkIn c);
-      identifications = withNew (x .identifications) (identificationIn c);
+      identifications = withNew (x .identifications) (edivRandIn c);
       displays = withNew (x .displays) (displayIn c);
     }
 
@@ -278,28 +278,35 @@ module _ (s : Start) (a : Answer s) where
 -- ---- what the passkeys and OOB data fix
 
 module _ (shared : Shared) where
-  -- what an end has listed for its method: whether 0x23 and 0x25, and the passkeys that it showed, which are the shared one
-  pub record Entry : Type 0 where
+  -- what an end has listed for its method: whether 0x23 and 0x25, and the passkeys that it showed, which the method fixes
+  pub record Entry (r : Role) (way : PairingMethod) : Type 0 where
     pub typing : Bool
     pub oob : Bool
     pub displays : List ℕ
-    pub areShared : AreAll (shared .shown) displays
+    pub asShown : displays ≡ shownAt r way (shared .shown)
 
-  abbrev pub noEntry : Entry
-  noEntry = record { typing = false; oob = false; displays = []; areShared = tt }
+  module _ {r : Role} {way : PairingMethod} where
+    -- nothing, PassKeyInput or OobRequest, where the method has it show no passkey
+    abbrev pub noEntry : [] ≡ shownAt r way (shared .shown) → Entry r way
+    noEntry e = record { typing = false; oob = false; displays = []; asShown = e }
 
-  abbrev pub typedEntry : Entry
-  typedEntry = record { typing = true; oob = false; displays = []; areShared = tt }
+    abbrev pub typedEntry : [] ≡ shownAt r way (shared .shown) → Entry r way
+    typedEntry e = record { typing = true; oob = false; displays = []; asShown = e }
 
-  abbrev pub shownEntry : Entry
-  shownEntry = record { typing = false; oob = false; displays = shared .shown ∷ []; areShared = (refl, tt) }
+    abbrev pub oobEntry : [] ≡ shownAt r way (shared .shown) → Entry r way
+    oobEntry e = record { typing = false; oob = true; displays = []; asShown = e }
 
-  abbrev pub oobEntry : Entry
-  oobEntry = record { typing = false; oob = true; displays = []; areShared = tt }
+    -- PassKeyDisplay, where it has
+    abbrev pub shownEntry : shared .shown ∷ [] ≡ shownAt r way (shared .shown) → Entry r way
+    shownEntry e = record { typing = false; oob = false; displays = shared .shown ∷ []; asShown = e }
+
+  -- before the method is chosen
+  abbrev pub unchosen : (r : Role) → Entry r method.JustWorks
+  unchosen r = noEntry refl
 
   -- an end's own state: what was listed, what is due, and the inputs that it got
   abbrev pub having :
-      Entry → (report : Bool) → List Encryption → List PairingFeatures → Option SentKeys → List Due → ℕ →
+      {r : Role} {way : PairingMethod} → Entry r way → (report : Bool) → List Encryption → List PairingFeatures → Option SentKeys → List Due → ℕ →
       Local (pairing shared)
   having entry report es rs keys due n =
       record {
@@ -344,8 +351,8 @@ module _ (shared : Shared) (s : Start) where
       pub sameBonds :
           bothBond (s .request) answer ≡ true → namesEncryptionKey (answer .«responder_key_distribution») ≡ true →
           SameBonds (negotiated (s .request) answer) (l₁ .log .ltks) (l₁ .log .identifications) m m₁
-      pub terminalShows : AreAll (shared .shown) (l .log .displays)
-      pub headShows : AreAll (shared .shown) (l₁ .log .displays)
+      pub terminalDisplays : l .log .displays ≡ shownAt Central (legacyMethod (s .request) answer) (shared .shown)
+      pub headDisplays : l₁ .log .displays ≡ shownAt Peripheral (legacyMethod (s .request) answer) (shared .shown)
 
   abbrev pub PairingProtocol : Type 1
   PairingProtocol = Protocol (pairing shared) Agreed
@@ -383,7 +390,7 @@ module _ (shared : Shared) (s : Start) where
         pub inputs : l .inputs ≡ inputsOfTerminal s a
         pub ends : m .phase ≡ phase.Success
         pub stored : Stored s a x m
-        pub shows : AreAll (shared .shown) (l .log .displays)
+        pub displays : l .log .displays ≡ shownAt Central (chosen s a) (shared .shown)
 
     pub record HeadDone (e : Encryption) (x : Option SentKeys) (m : Machine) (l : Local (pairing shared)) : Type 0 where
       pub responds : l .log .responses ≡ a .features ∷ []
@@ -393,7 +400,7 @@ module _ (shared : Shared) (s : Start) where
       pub stored : Stored s a x m
       pub sentLtk : l .log .ltks ≡ sentLtks x
       pub sentIdentification : l .log .identifications ≡ sentIdentifications x
-      pub shows : AreAll (shared .shown) (l .log .displays)
+      pub displays : l .log .displays ≡ shownAt Peripheral (chosen s a) (shared .shown)
 
     abbrev pub Done : Encryption → Option SentKeys → Party → Machine → Local (pairing shared) → Type 0
     Done e x opener m l = TerminalDone e x m l
@@ -435,8 +442,8 @@ module _ (shared : Shared) (s : Start) where
           terminalEnds = t .ends;
           headEnds = h .ends;
           sameBonds = λ p q. same-bonds x m m₁ _ _ (due p q) (t .stored) (h .stored) (h .sentLtk) (h .sentIdentification);
-          terminalShows = t .shows;
-          headShows = h .shows;
+          terminalDisplays = t .displays;
+          headDisplays = h .displays;
         }
 
     abbrev pub ending : (e : Encryption) (x : Option SentKeys) → SentIfClaimed s a x → PairingProtocol

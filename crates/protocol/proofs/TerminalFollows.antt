@@ -24,6 +24,7 @@ use Rattle.machine.specs.declared.ConfirmPhaseData.{ConfirmPhaseData}
 use Rattle.machine.specs.declared.Machine.{Machine}
 use Rattle.machine.specs.declared.PairingData.{PairingData}
 use Rattle.machine.specs.declared.Phase.the-variants as phase
+use Rattle.machine.specs.declared.Role.the-variants.{Central}
 use Rattle.protocol.specs.Program.{ret, bind}
 use Rattle.protocol.specs.Ops.{aNonce}
 use Rattle.protocol.specs.Handlers.{Handler, _>>=_, _>>_, give, namesEncryptionKey, namesIdentityKey, enters}
@@ -45,7 +46,7 @@ use Rattle.protocol.proofs.FairReplies.{FairData}
 use Rattle.protocol.proofs.Payloads.{some-word, word-in, features-in, identification-in, address-in}
 use Rattle.protocol.proofs.Payloads.{smaller-swapped}
 use Rattle.protocol.proofs.Pairing.{pairing, plus, terminalEntries, inputsOfTerminal, Answer, SentKeys, TerminalFollows}
-use Rattle.protocol.proofs.Pairing.{sentKeys, Entry, noEntry, typedEntry, shownEntry, oobEntry, having, tkOf, chosen, both, size, preq, pres, confirmOf, encryptionOf}
+use Rattle.protocol.proofs.Pairing.{sentKeys, Entry, noEntry, typedEntry, oobEntry, shownEntry, unchosen, having, tkOf, chosen, both, size, preq, pres, confirmOf, encryptionOf}
 use Rattle.protocol.proofs.Pairing.{Keeps, SentIfClaimed, ending, identityKey, terminalEncryption, terminalKeys, headKeys}
 use Rattle.protocol.proofs.Pairing.{afterSrand, afterMrand, afterMconfirm, confirms, afterResponse, afterRequest}
 
@@ -113,7 +114,7 @@ module _ (shared : Shared) (s : Start) (a : Answer s) where
   same-size = smaller-swapped (a .features .«maximum_encryption_key_size») (s .request .«maximum_encryption_key_size»)
 
   -- ---- the stages with encryption on
-  module _ (entry : Entry shared) (e : Encryption) where
+  module _ (entry : Entry shared Central (chosen s a)) (e : Encryption) where
     -- .. the terminal has sent keys of its own, or none yet
     abbrev encryptedWith : Option SentKeys → ℕ → Local (pairing shared)
     encryptedWith keys n = having shared entry true (e ∷ []) [] keys [] n
@@ -137,7 +138,7 @@ module _ (shared : Shared) (s : Start) (a : Answer s) where
           TerminalFollows shared s (plus 1 d) (ending shared s a e x due) (encryptedWith keys n) (ret success)
       stays d keys =
           finished
-          (record { encrypts = refl; inputs = all; ends = refl; stored = (b, refl, k); shows = entry .areShared })
+          (record { encrypts = refl; inputs = all; ends = refl; stored = (b, refl, k); displays = entry .asShown })
 
       -- Success is entered
       succeeds :
@@ -228,7 +229,7 @@ module _ (shared : Shared) (s : Start) (a : Answer s) where
         urgently refl refl refl (takes-keys-or-succeeds d (suc n) b (omega arith) (both s a) refl)
 
   -- ---- the stages before
-  module _ (entry : Entry shared) where
+  module _ (entry : Entry shared Central (chosen s a)) where
     abbrev unencrypted : ℕ → Local (pairing shared)
     unencrypted n = having shared entry false [] [] none [] n
 
@@ -270,23 +271,23 @@ module _ (shared : Shared) (s : Start) (a : Answer s) where
   begins-method :
       (d : ℕ) (way : PairingMethod) → chosen s a ≡ way →
       TerminalFollows shared s (plus 25 d) (afterResponse shared s a way)
-      (having shared (noEntry shared) false [] [] none [] 1)
+      (having shared (unchosen shared Central) false [] [] none [] 1)
       (bind (beginMethod (preq s a) (pres s a) unbonded way) entered)
   unfolding beginMethod enter «handle_input» transition «handle_pass_key_input» beginConfirm
-  begins-method d method.JustWorks e = sends-mconfirm (noEntry shared) (plus 2 d) 1 _ (rw e) (rw e)
+  begins-method d method.JustWorks e = sends-mconfirm (noEntry shared (rw e)) (plus 2 d) 1 _ (rw e) (rw e)
   begins-method d method.NumericComparison e = absurd (never-numeric (s .request) (a .features) e)
   begins-method d (method.PassKeyEntry action.Display peripheral) e =
-      quiet refl λ u. quiet refl λ v. sends-mconfirm (shownEntry shared) d 1 _ (rw e) (rw e)
+      quiet refl λ u. quiet refl λ v. sends-mconfirm (shownEntry shared (rw e)) d 1 _ (rw e) (rw e)
   begins-method d (method.PassKeyEntry action.Input peripheral) e =
-      quiet refl λ u. owing refl refl refl (sends-mconfirm (typedEntry shared) d 2 _ (rw e) (rw e))
+      quiet refl λ u. owing refl refl refl (sends-mconfirm (typedEntry shared (rw e)) d 2 _ (rw e) (rw e))
   begins-method d method.OutOfBand e =
-      quiet refl λ u. behind refl refl (sends-mconfirm (oobEntry shared) d 2 _ (rw e) (rw e))
+      quiet refl λ u. behind refl refl (sends-mconfirm (oobEntry shared (rw e)) d 2 _ (rw e) (rw e))
 
 -- ---- from the request on, with the response first
 pub terminal-follows :
     (shared : Shared) (s : Start) (d : ℕ) →
     TerminalFollows shared s (plus 26 d) (afterRequest shared s)
-    (having shared (noEntry shared) false [] [] none [] 0)
+    (having shared (unchosen shared Central) false [] [] none [] 0)
     (ret (freshTerminal s))
 unfolding freshTerminal lescSwitch «handle_input» transition «handle_pairing_response»
 terminal-follows shared s d =

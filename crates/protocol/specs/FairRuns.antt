@@ -33,7 +33,7 @@ use Rattle.machine.specs.declared.Machine.{Machine}
 use Rattle.machine.specs.declared.PairingResult.the-variants as result
 use Rattle.machine.specs.declared.Phase.the-variants as phase
 use Rattle.machine.specs.declared.Role.{Role}
-use Rattle.machine.specs.declared.Role.the-variants.{Peripheral}
+use Rattle.machine.specs.declared.Role.the-variants.{Central, Peripheral}
 use Rattle.protocol.specs.declared.Outcome.{Outcome}
 use Rattle.protocol.specs.declared.Outcome.the-variants as outcome
 use Rattle.protocol.specs.declared.Stepped.{Stepped}
@@ -101,41 +101,25 @@ responseIn c = ofPacket responseOf c
 abbrev pub responsesIn : List Call → List PairingFeatures
 responsesIn cs = ofAll responseIn cs
 
--- an LTK on the air, packet 0x06
-abbrev pub ltkOf : Packet → List LongTermKey
-ltkOf (packet.PairingResponse f) = []
-ltkOf (packet.PairingConfirm c) = []
-ltkOf (packet.PairingRandom n) = []
-ltkOf (packet.EncryptionInformation k) = k ∷ []
-ltkOf (packet.CentralIdentification e r) = []
-ltkOf (packet.IdentityInformation k) = []
-ltkOf (packet.IdentityAddressInformation a) = []
+-- ---- calling for encryption is call 0x3A, key and level being those of its body
 
-abbrev pub ltkIn : Call → List LongTermKey
-ltkIn c = ofPacket ltkOf c
+pub record Encryption : Type 0 where
+  pub key : LongTermKey
+  pub level : ℕ
 
-abbrev pub ltksIn : List Call → List LongTermKey
-ltksIn cs = ofAll ltkIn cs
+abbrev pub encryptionIn : Call → List Encryption
+encryptionIn (call.SendPacket p) = []
+encryptionIn (call.SendConnectionEvent e) = []
+encryptionIn (call.Ask q) = []
+encryptionIn (call.Draw d) = []
+encryptionIn (call.EnableEncryption k l n) = record { key = k; level = l } ∷ []
+encryptionIn call.EnableBondedEncryption = []
+encryptionIn (call.UpdateBondInformation b) = []
 
--- EDIV and Rand on the air, packet 0x07
-pub record Identification : Type 0 where
-  pub ediv : ℕ
-  pub rand : ℕ
+abbrev pub encryptionsIn : List Call → List Encryption
+encryptionsIn cs = ofAll encryptionIn cs
 
-abbrev pub identificationOf : Packet → List Identification
-identificationOf (packet.PairingResponse f) = []
-identificationOf (packet.PairingConfirm c) = []
-identificationOf (packet.PairingRandom n) = []
-identificationOf (packet.EncryptionInformation k) = []
-identificationOf (packet.CentralIdentification e r) = record { ediv = e; rand = r } ∷ []
-identificationOf (packet.IdentityInformation k) = []
-identificationOf (packet.IdentityAddressInformation a) = []
-
-abbrev pub identificationIn : Call → List Identification
-identificationIn c = ofPacket identificationOf c
-
-abbrev pub identificationsIn : List Call → List Identification
-identificationsIn cs = ofAll identificationIn cs
+-- ---- passkeys shown
 
 -- a passkey shown, event 0x22
 abbrev pub displayOf : ConnectionEvent → List ℕ
@@ -158,23 +142,22 @@ displayIn (call.UpdateBondInformation b) = []
 abbrev pub displaysIn : List Call → List ℕ
 displaysIn cs = ofAll displayIn cs
 
--- ---- calling for encryption is call 0x3A, key and level being those of its body
+-- where the method has an end show the passkey, it shows it once
+abbrev pub shownAs : PassKeyEntryAction → ℕ → List ℕ
+shownAs action.Display passKey = passKey ∷ []
+shownAs action.Input passKey = []
 
-pub record Encryption : Type 0 where
-  pub key : LongTermKey
-  pub level : ℕ
+abbrev pub shownAt : Role → PairingMethod → ℕ → List ℕ
+shownAt r method.JustWorks passKey = []
+shownAt r method.NumericComparison passKey = []
+shownAt Central (method.PassKeyEntry central peripheral) passKey = shownAs central passKey
+shownAt Peripheral (method.PassKeyEntry central peripheral) passKey = shownAs peripheral passKey
+shownAt r method.OutOfBand passKey = []
 
-abbrev pub encryptionIn : Call → List Encryption
-encryptionIn (call.SendPacket p) = []
-encryptionIn (call.SendConnectionEvent e) = []
-encryptionIn (call.Ask q) = []
-encryptionIn (call.Draw d) = []
-encryptionIn (call.EnableEncryption k l n) = record { key = k; level = l } ∷ []
-encryptionIn call.EnableBondedEncryption = []
-encryptionIn (call.UpdateBondInformation b) = []
-
-abbrev pub encryptionsIn : List Call → List Encryption
-encryptionsIn cs = ofAll encryptionIn cs
+-- all of these are this number
+abbrev pub AreAll : ℕ → List ℕ → Type 0
+AreAll n [] = Unit {0}
+AreAll n (x ∷ l) = (x ≡ n) × AreAll n l
 
 -- ---- how the ends stand
 
@@ -206,6 +189,42 @@ HeadEnds false m = m .phase ≡ phase.Success
 abbrev pub negotiated : PairingFeatures → PairingFeatures → ℕ
 negotiated request answer = smaller (request .«maximum_encryption_key_size») (answer .«maximum_encryption_key_size»)
 
+-- an LTK on the air, packet 0x06
+abbrev pub ltkOf : Packet → List LongTermKey
+ltkOf (packet.PairingResponse f) = []
+ltkOf (packet.PairingConfirm c) = []
+ltkOf (packet.PairingRandom n) = []
+ltkOf (packet.EncryptionInformation k) = k ∷ []
+ltkOf (packet.CentralIdentification e r) = []
+ltkOf (packet.IdentityInformation k) = []
+ltkOf (packet.IdentityAddressInformation a) = []
+
+abbrev pub ltkIn : Call → List LongTermKey
+ltkIn c = ofPacket ltkOf c
+
+abbrev pub ltksIn : List Call → List LongTermKey
+ltksIn cs = ofAll ltkIn cs
+
+-- EDIV and Rand on the air, packet 0x07
+pub record Identification : Type 0 where
+  pub ediv : ℕ
+  pub rand : ℕ
+
+abbrev pub edivRandOf : Packet → List Identification
+edivRandOf (packet.PairingResponse f) = []
+edivRandOf (packet.PairingConfirm c) = []
+edivRandOf (packet.PairingRandom n) = []
+edivRandOf (packet.EncryptionInformation k) = []
+edivRandOf (packet.CentralIdentification e r) = record { ediv = e; rand = r } ∷ []
+edivRandOf (packet.IdentityInformation k) = []
+edivRandOf (packet.IdentityAddressInformation a) = []
+
+abbrev pub edivRandIn : Call → List Identification
+edivRandIn c = ofPacket edivRandOf c
+
+abbrev pub edivRandsIn : List Call → List Identification
+edivRandsIn cs = ofAll edivRandIn cs
+
 -- a machine's bond holds this LTK, cut to the negotiated size, and this EDIV and Rand
 pub record HoldsKeys (size : ℕ) (ltk : LongTermKey) (identification : Identification) (m : Machine) : Type 0 where
   pub bond : BondInformation
@@ -225,15 +244,10 @@ pub record SameBonds
     pub terminalHolds : HoldsKeys size ltk identification terminal
     pub headHolds : HoldsKeys size ltk identification head
 
--- all of these are this number
-abbrev pub AreAll : ℕ → List ℕ → Type 0
-AreAll n [] = Unit {0}
-AreAll n (x ∷ l) = (x ≡ n) × AreAll n l
-
 -- ---- the claim
 
 -- what a run of this many inputs comes to
-pub record RunEnds (request : PairingFeatures) (inputs : ℕ) (L : Link) : Type 0 where
+pub record RunEnds (shared : Shared) (request : PairingFeatures) (inputs : ℕ) (L : Link) : Type 0 where
   -- nothing is queued, due or open
   pub terminalIdle : Idle (L .terminal)
   pub headIdle : Idle (L .head)
@@ -246,6 +260,10 @@ pub record RunEnds (request : PairingFeatures) (inputs : ℕ) (L : Link) : Type 
   pub encryption : Encryption
   pub terminalEncrypts : encryptionsIn (L .terminal .calls) ≡ encryption ∷ []
   pub headEncrypts : encryptionsIn (L .head .calls) ≡ encryption ∷ []
+  -- the shared passkey was shown once by an end that the method has show it, and none else
+  pub terminalDisplays :
+      displaysIn (L .terminal .calls) ≡ shownAt Central (legacyMethod request answer) (shared .shown)
+  pub headDisplays : displaysIn (L .head .calls) ≡ shownAt Peripheral (legacyMethod request answer) (shared .shown)
   -- both stand in Success, the state of that name of the machines, but for the excepted case, in which the head waits for
   -- the identity key
   pub terminalEnds : L .terminal .machine .phase ≡ phase.Success
@@ -253,7 +271,7 @@ pub record RunEnds (request : PairingFeatures) (inputs : ℕ) (L : Link) : Type 
   -- if both bond and the answer names the responder's encryption key, both bonds hold the keys that the head sent
   pub sameBonds :
       bothBond request answer ≡ true → namesEncryptionKey (answer .«responder_key_distribution») ≡ true →
-      SameBonds (negotiated request answer) (ltksIn (L .head .calls)) (identificationsIn (L .head .calls))
+      SameBonds (negotiated request answer) (ltksIn (L .head .calls)) (edivRandsIn (L .head .calls))
       (L .terminal .machine) (L .head .machine)
 
 abbrev pub NotRefused : Outcome → Type 0
@@ -276,13 +294,13 @@ pub record RunsEnd (s : Start) (bound : ℕ) (shared : Shared) : Type 0 where
       (k : MoveKind) (L₁ : Link) (x : Move shared L k L₁) → NotRefused (outcomeOf x)
   -- inputs, the moves of the first kind, are at most 18 in any list of moves
   pub fewInputs : (moves inputs : ℕ) (L : Link) → Moves shared (freshLink s) moves inputs L → inputs ≤ 18
-  -- any passkey shown, at either end, is the shared one, to which those typed are equal
-  pub shows :
+  -- any passkey shown, at either end and by now, is the shared one, to which those typed are then equal
+  pub displays :
       (moves inputs : ℕ) (L : Link) → Moves shared (freshLink s) moves inputs L →
       (r : Role) → AreAll (shared .shown) (displaysIn (endOf r L .calls))
   -- what every run comes to
   pub comesTo :
-      (moves inputs : ℕ) (L : Link) → Run shared (freshLink s) moves inputs L → RunEnds (s .request) inputs L
+      (moves inputs : ℕ) (L : Link) → Run shared (freshLink s) moves inputs L → RunEnds shared (s .request) inputs L
 
 -- demand 3: from each start some number bounds all lists of moves, in all orders, with all host answers, passkeys and OOB
 -- data, and every run comes to what is said
