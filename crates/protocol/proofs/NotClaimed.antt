@@ -5,17 +5,22 @@ use mathlib.Core.Path.{_≡_, refl, ap}
 use mathlib.Core.Bool.{Bool, true, false, cond}
 use mathlib.Core.List.{List}
 use mathlib.Core.Logic.{_⊎_, inl, inr}
+use lib.ListN.{getD}
 use native.Mathlib.Decide.{decLt}
 use native.Mathlib.Omega.{arith}
 use borrow.Author.Tests.{eq-eqb, ne-eqb, lt-ltb, le-ltb}
 use Rattle.crypto.specs.declared.crypto.Confirm.{Confirm}
-use Rattle.bond.specs.Bond.{addressType}
+use Rattle.bond.specs.Bond.{addressType, verdictError}
 use Rattle.bond.specs.declared.Address.{Address}
 use Rattle.bond.specs.declared.BondInformation.{BondInformation}
 use Rattle.bond.specs.declared.Error.the-variants.{OutOfMemory, Host}
 use Rattle.bond.specs.declared.OptionBond.the-variants as option
 use Rattle.host.specs.declared.call.Call.the-variants as call
 use Rattle.host.specs.declared.call.ConnectionEvent.the-variants as notice
+use Rattle.answer.specs.Answers.{found, addressBody, encryptionBody, bondedBody}
+use Rattle.answer.specs.declared.AddressResult.the-variants as address-result
+use Rattle.answer.specs.declared.BondResult.the-variants as bond-result
+use Rattle.answer.specs.declared.OptionBondResult.the-variants as option-result
 use Rattle.machine.specs.Machine.{noConfirmData, wantBonding}
 use Rattle.machine.specs.declared.ConfirmBytes.the-variants as stored
 use Rattle.machine.specs.declared.ConfirmPhaseData.{ConfirmPhaseData}
@@ -26,7 +31,7 @@ use Rattle.machine.specs.declared.Phase.{Phase}
 use Rattle.machine.specs.declared.Phase.the-variants as phase
 use Rattle.protocol.specs.Program.{ret, ask}
 use Rattle.protocol.specs.Ops.{delivered, undelivered, deliveryOf}
-use Rattle.protocol.specs.Handlers.{«addr_type_flag», _>>=_, _>>_, give, bondedEncryption, namesIdentityKey, enters, withTk, withBond, smaller, passKeyTk, enter}
+use Rattle.protocol.specs.Handlers.{«addr_type_flag», _>>=_, _>>_, give, onOptionBond, bondedEncryption, namesIdentityKey, enters, withTk, withBond, smaller, passKeyTk, enter}
 use Rattle.protocol.specs.LegacyCentral as central
 use Rattle.protocol.specs.LegacyPeripheral as peripheral
 use Rattle.protocol.proofs.Corners.{standing}
@@ -56,6 +61,7 @@ kind-other a h = ap (λ b. cond b 0 1) (ne-eqb (a .kind) 0 h)
 
 -- ---- verdicts: 0 done, 1 out of memory, others a host error with that octet
 
+-- of packets, events and updates
 pub verdict-done : deliveryOf 0 ≡ delivered
 verdict-done = refl
 
@@ -64,6 +70,17 @@ verdict-out-of-memory = refl
 
 pub verdict-of-the-host : (v : ℕ) → (v ≡ 0 → ⊥) → (v ≡ 1 → ⊥) → deliveryOf v ≡ undelivered (Host v)
 verdict-of-the-host v h k = rw (ne-eqb v 0 h, ne-eqb v 1 k) refl
+
+-- of the answers to 0x32, 0x3A and 0x3B, in the first octet: after another than 0 the rest of the body is ignored
+module _ (body : List ℕ) (not-done : getD body 0 0 ≡ 0 → ⊥) where
+  pub address-refused : addressBody body ≡ address-result.Err (verdictError (getD body 0 0))
+  address-refused = rw (ne-eqb (getD body 0 0) 0 not-done) refl
+
+  pub encryption-refused : encryptionBody body ≡ found (bond-result.Err (verdictError (getD body 0 0)))
+  encryption-refused = rw (ne-eqb (getD body 0 0) 0 not-done) refl
+
+  pub bonded-encryption-refused : bondedBody body ≡ found (option-result.Err (verdictError (getD body 0 0)))
+  bonded-encryption-refused = rw (ne-eqb (getD body 0 0) 0 not-done) refl
 
 -- ---- a bonded reconnect: 0x3B is asked, then the identity key is awaited where it is named, else it is Success
 
@@ -74,15 +91,16 @@ reconnected false = phase.Success
 pub bonded-reconnect :
     (c : ConfirmPhaseData) (d : PairingData) (payload : List ℕ) →
     peripheral.transition (standing phase.WaitingPairingRequest c d) (input.Event (event.LinkEncryptedResult true)) payload
-    ≡ _>>=_ (bondedEncryption d) (λ bond. give (enters
-    (reconnected (namesIdentityKey (d .«peer_features» .«initiator_key_distribution»))) noConfirmData (withBond bond d)))
+    ≡ ask call.EnableBondedEncryption (λ reply. _>>=_ (onOptionBond d reply) (λ bond. give (enters
+    (reconnected (namesIdentityKey (d .«peer_features» .«initiator_key_distribution»))) noConfirmData (withBond bond d))))
 unfolding peripheral.transition peripheral.«handle_link_encrypted_success» peripheral.sendKeysOrAwaitIdentity
     peripheral.awaitIdentityOrSucceed
 bonded-reconnect c d payload = go (namesIdentityKey (d .«peer_features» .«initiator_key_distribution»))
   where
     go : (named : Bool) →
         _>>=_ (bondedEncryption d) (λ bond. peripheral.awaitIdentityOrSucceed (withBond bond d) named)
-        ≡ _>>=_ (bondedEncryption d) (λ bond. give (enters (reconnected named) noConfirmData (withBond bond d)))
+        ≡ ask call.EnableBondedEncryption (λ reply. _>>=_ (onOptionBond d reply) (λ bond. give (enters
+        (reconnected named) noConfirmData (withBond bond d))))
     go true = refl
     go false = refl
 

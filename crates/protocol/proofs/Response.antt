@@ -3,21 +3,28 @@
 use Prim.Native.Nat.{ℕ}
 use mathlib.Core.Path.{_≡_, refl, ap, _∙_}
 use mathlib.Core.Bool.{Bool, true, false, _||_}
+use mathlib.Core.List.{List}
+use mathlib.Core.Option.{some}
 use native.Mathlib.Omega.{arith}
 use Rattle.octets.specs.Octets.{sameWord}
 use Rattle.crypto.specs.declared.crypto.IdentityResolvingKey.{IdentityResolvingKey}
-use Rattle.types.specs.Types.{oobPresent, bondingOf, flag, mitmFlag, encryptionKeyFlag, identityKeyFlag}
+use Rattle.types.specs.Types.{featureOctets, oobPresent, bondingOf, flag, mitmFlag, encryptionKeyFlag, identityKeyFlag}
 use Rattle.types.specs.declared.capabilities.IoCapabilities.{IoCapabilities}
 use Rattle.types.specs.declared.capabilities.IoCapabilities.the-variants as io
+use Rattle.types.specs.declared.types.Command.the-variants as command
 use Rattle.types.specs.declared.types.KeyDistributionFlags.{KeyDistributionFlags}
 use Rattle.types.specs.declared.types.PairingFeatures.{PairingFeatures}
-use Rattle.util.specs.Method.{hasOob, wantsMitm}
+use Rattle.util.specs.Method.{hasOob, wantsMitm, legacyMethod}
 use Rattle.host.specs.declared.call.Call.the-variants as call
+use Rattle.host.specs.declared.call.Packet.the-variants as packet
 use Rattle.host.specs.declared.call.Question.the-variants as question
+use Rattle.machine.specs.declared.Machine.{Machine}
+use Rattle.machine.specs.declared.PairingData.{PairingData}
 use Rattle.machine.specs.Machine.{isBonding, wishes, zeroWord}
 use Rattle.protocol.specs.Program.{ask}
-use Rattle.protocol.specs.Handlers.{Handler, give, namesEncryptionKey, namesIdentityKey}
-use Rattle.protocol.specs.LegacyPeripheral.{addKey, initiatorKeys, responderKeys, identityOffered, withOob, withMitm, newLegacy, responseFeatures}
+use Rattle.protocol.specs.Ops.{Delivery}
+use Rattle.protocol.specs.Handlers.{Handler, _>>=_, _>>_, give, onDelivery, asked, featuresIn, commandOctets, namesEncryptionKey, namesIdentityKey, withFeatures}
+use Rattle.protocol.specs.LegacyPeripheral.{addKey, initiatorKeys, responderKeys, identityOffered, withOob, withMitm, newLegacy, bondLost, responseFeatures, beginMethod, «handle_pairing_request»}
 use Rattle.protocol.proofs.Payloads.{key-added, key-kept}
 
 -- any input or output
@@ -144,3 +151,28 @@ pub offers-identity : OffersIdentity
 unfolding sameWord
 offers-identity =
     record { notNamed = refl; then = _; named = refl; withoutIrk = refl; withIrk = λ irk e. rw e refl }
+
+-- ---- packet 0x02 has that record, by what the host said
+
+-- behind 0x30 and any BondLost: 0x31 where the request names the identity key, then 0x33, 0x34 and the response
+pub answer-sent :
+    (d : PairingData) (payload : List ℕ) (peer : PairingFeatures) → featuresIn payload ≡ some peer →
+    (then : (offered bonding available : Bool) → Delivery → Handler Machine)
+    × («handle_pairing_request» d payload
+    ≡ _>>=_ (asked question.FindBond) (λ found. _>>_ (bondLost found)
+    (_>>=_ (identityOffered (namesIdentityKey (peer .«responder_key_distribution»))) (λ offered.
+    ask (call.Ask question.BondingFlag) (λ bonding. ask (call.Ask question.OobAvailable) (λ available.
+    ask (call.SendPacket (packet.PairingResponse
+    (responseFeatures (d .«local_features») peer offered bonding available)))
+    (then offered bonding available)))))))
+unfolding «handle_pairing_request»
+answer-sent d payload peer h = (begins, rw h refl)
+  where
+    -- the method begins
+    begins : (offered bonding available : Bool) → Delivery → Handler Machine
+    begins offered bonding available reply =
+        let local = responseFeatures (d .«local_features») peer offered bonding available in
+        let d₁ = withFeatures local peer (legacyMethod peer local) d in
+        _>>_ (onDelivery d₁ reply)
+        (beginMethod (commandOctets command.PairingRequest payload)
+        (commandOctets command.PairingResponse (featureOctets local)) d₁ (legacyMethod peer local))
