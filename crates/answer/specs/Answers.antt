@@ -95,12 +95,12 @@ answerLength (call.UpdateBondInformation b) = verdictLength
 pub data Found (A : Type 0) : Type 0 where
   found : A → Found A
   wanted : Found A
-  refusedBy : ℕ → Found A
+  refusal : ℕ → Found A
 
 abbrev pub onFound : {A B : Type 0} → Found A → (A → Found B) → Found B
 onFound (found a) f = f a
 onFound wanted f = wanted
-onFound (refusedBy n) f = refusedBy n
+onFound (refusal n) f = refusal n
 
 -- "What is turned back": 3 when an answer reached has another kind, a cut body or a forbidden value
 abbrev pub answerRefusal : ℕ
@@ -108,7 +108,7 @@ answerRefusal = 3
 
 -- a forbidden value is refused
 abbrev pub allowed : {A B : Type 0} → Option A → (A → B) → Found B
-allowed none f = refusedBy answerRefusal
+allowed none f = refusal answerRefusal
 allowed (some a) f = found (f a)
 
 -- the body of the record at a place: wanted where the answers end exactly there, refused where the kind is another or
@@ -117,7 +117,7 @@ unfoldable pub bodyAt : List ℕ → ℕ → ℕ → ℕ → Found (List ℕ)
 bodyAt s at kind size =
     cond (eqb at (length s)) wanted
     (cond (ltb (at + size) (length s) && eqb (getD s at 0) kind) (found (take size (drop (at + 1) s)))
-    (refusedBy answerRefusal))
+    (refusal answerRefusal))
 
 -- the answer to a call
 abbrev pub answerAt : List ℕ → ℕ → Call → Found (List ℕ)
@@ -152,7 +152,7 @@ abbrev pub passKeyMax : ℕ
 passKeyMax = 999999
 
 abbrev pub passKeyBody : ℕ → Found PassKey
-passKeyBody n = cond (ltb passKeyMax n) (refusedBy answerRefusal) (found (record { 0 = n }))
+passKeyBody n = cond (ltb passKeyMax n) (refusal answerRefusal) (found (record { 0 = n }))
 
 unfoldable pub passKeyAt : List ℕ → ℕ → Found PassKey
 passKeyAt s at = onFound (answerAt s at (call.Draw draw.PassKey)) (λ b. passKeyBody (fromOctets b))
@@ -179,7 +179,7 @@ presentBody b true = allowed (bondOf (take 51 (drop 2 b))) (λ bond. option-resu
 presentBody b false = found (option-result.Ok option.None)
 
 abbrev pub onPresent : List ℕ → Option Bool → Found OptionBondResult
-onPresent b none = refusedBy answerRefusal
+onPresent b none = refusal answerRefusal
 onPresent b (some p) = presentBody b p
 
 abbrev pub bondedBody : List ℕ → Found OptionBondResult
@@ -193,13 +193,13 @@ bondedAt s at = onFound (answerAt s at call.EnableBondedEncryption) bondedBody
 -- why there is no answer: the step wants one, or it is refused by 3
 abbrev pub stopFound : {A : Type 0} → Stop → Found A
 stopFound Wanted = wanted
-stopFound Refused = refusedBy answerRefusal
+stopFound Refused = refusal answerRefusal
 
 -- .. and back; Wanted where there is an answer
 abbrev pub stopOf : {A : Type 0} → Found A → Stop
 stopOf (found a) = Wanted
 stopOf wanted = Wanted
-stopOf (refusedBy n) = Refused
+stopOf (refusal n) = Refused
 
 abbrev pub framed : List ℕ → ℕ → Frame → Found (List ℕ)
 framed s size (frame.Body b) = found (take size (drop b s))

@@ -44,14 +44,6 @@ callIn (c ∷ calls) (suc i) = callIn calls i
 unfoldable pub callAtOf : List ℕ → ℕ → Answer (Option CallRecord)
 callAtOf l i = andThen (callsOf l) (λ calls. accepted (callIn calls i))
 
--- ---- what the encoder writes
-
--- ---- kinds and bodies laid end to end
-
-abbrev pub sizeOf : Option ℕ → ℕ
-sizeOf none = 0
-sizeOf (some n) = n
-
 -- ---- the code's cases
 
 abbrev pub noCall : CallRecord

@@ -8,7 +8,7 @@ use Rattle.bond.specs.declared.Error.{Error}
 use Rattle.host.specs.declared.call.Call.{Call}
 use Rattle.host.specs.declared.call.Trace.{Trace}
 use native.Mathlib.Omega.{arith}
-use Rattle.answer.specs.Answers.{Found, found, wanted, refusedBy, onFound, bodyAt, verdictAt, flagAt, stopFound}
+use Rattle.answer.specs.Answers.{Found, found, wanted, refusal, onFound, bodyAt, verdictAt, flagAt, stopFound}
 use Rattle.answer.specs.declared.Stop.{Stop}
 use Rattle.answer.specs.declared.Stop.the-variants.{Wanted, Refused}
 use Rattle.protocol.specs.Program.{ret, ask, bind}
@@ -69,12 +69,12 @@ answer-within c s at {x} e = reads .within c s at x (at + answerSize c) (ap (tak
 abbrev IsFound : {A : Type 0} → Found A → Type 0
 IsFound (found a) = Unit {0}
 IsFound wanted = ⊥
-IsFound (refusedBy n) = ⊥
+IsFound (refusal n) = ⊥
 
 found-body : {A : Type 0} (x : Found (List ℕ)) (f : List ℕ → Found A) {a : A} → onFound x f ≡ found a → (b : List ℕ) × (x ≡ found b)
 found-body (found b) f e = (b, refl)
 found-body wanted f e = absurd (subst IsFound (sym e) tt)
-found-body (refusedBy n) f e = absurd (subst IsFound (sym e) tt)
+found-body (refusal n) f e = absurd (subst IsFound (sym e) tt)
 
 body-within : (s : List ℕ) (at kind size : ℕ) {b : List ℕ} → bodyAt s at kind size ≡ found b → at + (1 + size) ≤ length s
 body-within s at kind size e =

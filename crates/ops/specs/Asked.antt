@@ -8,7 +8,7 @@ use Rattle.crypto.specs.declared.crypto.Nonce.{Nonce}
 use Rattle.types.specs.declared.types.PassKey.{PassKey}
 use Rattle.bond.specs.declared.Error.{Error}
 use Rattle.host.specs.declared.call.Trace.{Trace}
-use Rattle.answer.specs.Answers.{Found, found, wanted, refusedBy, flagAnswer, irkAnswer, nonceAnswer, passKeyAnswer, ltkAnswer, edivAnswer, randAnswer}
+use Rattle.answer.specs.Answers.{Found, found, wanted, refusal, flagAnswer, irkAnswer, nonceAnswer, passKeyAnswer, ltkAnswer, edivAnswer, randAnswer}
 use Rattle.answer.specs.declared.Stop.{Stop}
 use Rattle.answer.specs.declared.Stop.the-variants.{Wanted, Refused}
 use Rattle.answer.specs.declared.AddressResult.{AddressResult}
@@ -59,7 +59,7 @@ ranSent r = ranDelivered (r .trace) (r .answer)
 abbrev pub ranFound : {A : Type 0} → Trace → Found A → Ran A
 ranFound t (found a) = ended a t
 ranFound t wanted = stopped Wanted t
-ranFound t (refusedBy n) = stopped Refused t
+ranFound t (refusal n) = stopped Refused t
 
 abbrev pub ranFlag : AskedFlag → Ran Bool
 ranFlag r = ranFound (r .trace) (flagAnswer (r .answer))

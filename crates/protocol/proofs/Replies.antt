@@ -21,7 +21,7 @@ use Rattle.host.specs.declared.call.Draw.{Draw}
 use Rattle.host.specs.declared.call.Draw.the-variants as draw
 use Rattle.host.specs.declared.call.Call.{Call}
 use Rattle.host.specs.declared.call.Call.the-variants as call
-use Rattle.answer.specs.Answers.{answerLength, Found, found, wanted, refusedBy, answerRefusal, onFound, allowed, bodyAt, answerAt, passKeyMax}
+use Rattle.answer.specs.Answers.{answerLength, Found, found, wanted, refusal, answerRefusal, onFound, allowed, bodyAt, answerAt, passKeyMax}
 use Rattle.answer.specs.Answers.{addressBody, passKeyBody, encryptionBody, bondedBody, onPresent}
 use Rattle.answer.specs.Answers.{verdictAt, flagAt, irkAt, addressAt, nonceAt, passKeyAt, ltkAt, edivAt, randAt}
 use Rattle.answer.specs.Answers.{encryptionAt, bondedAt}
@@ -53,7 +53,7 @@ verdict-meant : (x : Found (List ℕ))
     → onFound (onFound x (λ b. found (getD b 0 0))) (λ v. found (deliveryOf v)) ≡ onFound x (meaning aVerdict)
 verdict-meant (found b) = refl
 verdict-meant wanted = refl
-verdict-meant (refusedBy n) = refl
+verdict-meant (refusal n) = refl
 
 question-meant : (q : Question) (s : List ℕ) (at : ℕ)
     → replyFound (replySort (call.Ask q)) (call.Ask q) s at ≡ meant (call.Ask q) s at
@@ -120,7 +120,7 @@ answer-length (call.UpdateBondInformation b) = refl
 abbrev IsThere : {X : Type 0} → Found X → Type 0
 IsThere (found x) = Unit {0}
 IsThere wanted = ⊥
-IsThere (refusedBy k) = Unit {0}
+IsThere (refusal k) = Unit {0}
 
 allowed-there : {X Y : Type 0} (o : Option X) (f : X → Y) → IsThere (allowed o f)
 allowed-there none f = tt
@@ -153,7 +153,7 @@ meaning-there anOptionBond b = cond-there (eqb (getD b 0 0) 0) _ _ (present-ther
 abbrev pub Says : List ℕ → ℕ → ℕ → ℕ → Found (List ℕ) → Type 0
 Says s at kind size (found b) = (at + size < length s) × (getD s at 0 ≡ kind) × (take size (drop (at + 1) s) ≡ b)
 Says s at kind size wanted = at ≡ length s
-Says s at kind size (refusedBy k) = Unit {0}
+Says s at kind size (refusal k) = Unit {0}
 
 pub body-says : (s : List ℕ) (at kind size : ℕ) → Says s at kind size (bodyAt s at kind size)
 unfolding bodyAt
@@ -161,7 +161,7 @@ body-says s at kind size = go (eqb at (length s)) (ltb (at + size) (length s)) (
   where
     go : (x y z : Bool) → eqb at (length s) ≡ x → ltb (at + size) (length s) ≡ y → eqb (getD s at 0) kind ≡ z
         → Says s at kind size
-        (cond x wanted (cond (y && z) (found (take size (drop (at + 1) s))) (refusedBy answerRefusal)))
+        (cond x wanted (cond (y && z) (found (take size (drop (at + 1) s))) (refusal answerRefusal)))
     go true y z p q r = eqb-true at (length s) p
     go false true true p q r = (ltb-true _ _ q, eqb-true _ _ r, refl)
     go false true false p q r = tt
@@ -211,29 +211,29 @@ IsWanted refused = ⊥
 got-next : {X : Type 0} (next : ℕ) (z : Found X) {x : X} {n : ℕ} → taken next z ≡ got x n → n ≡ next
 got-next next (found y) e = cc
 got-next next wanted e = absurd (subst IsGot (sym e) tt)
-got-next next (refusedBy k) e = absurd (subst IsGot (sym e) tt)
+got-next next (refusal k) e = absurd (subst IsGot (sym e) tt)
 
 got-found : {X : Type 0} (next : ℕ) (z : Found X) {x : X} {n : ℕ} → taken next z ≡ got x n → z ≡ found x
 got-found next (found y) e = cc
 got-found next wanted e = absurd (subst IsGot (sym e) tt)
-got-found next (refusedBy k) e = absurd (subst IsGot (sym e) tt)
+got-found next (refusal k) e = absurd (subst IsGot (sym e) tt)
 
 body-got : {X : Type 0} (next : ℕ) (y : Found (List ℕ)) (f : List ℕ → Found X) {x : X} {n : ℕ}
     → taken next (onFound y f) ≡ got x n → (b : List ℕ) × (y ≡ found b)
 body-got next (found b) f e = (b, refl)
 body-got next wanted f e = absurd (subst IsGot (sym e) tt)
-body-got next (refusedBy k) f e = absurd (subst IsGot (sym e) tt)
+body-got next (refusal k) f e = absurd (subst IsGot (sym e) tt)
 
 not-wanted : {X : Type 0} (next : ℕ) (z : Found X) → IsThere z → taken next z ≡ wants → ⊥
 not-wanted next (found y) h e = subst IsWanted (sym e) tt
 not-wanted next wanted h e = h
-not-wanted next (refusedBy k) h e = subst IsWanted (sym e) tt
+not-wanted next (refusal k) h e = subst IsWanted (sym e) tt
 
 body-wanted : {X : Type 0} (next : ℕ) (y : Found (List ℕ)) (f : List ℕ → Found X) → ((b : List ℕ) → IsThere (f b))
     → taken next (onFound y f) ≡ wants → y ≡ wanted
 body-wanted next (found b) f h e = absurd (not-wanted next (f b) (h b) e)
 body-wanted next wanted f h e = refl
-body-wanted next (refusedBy k) f h e = absurd (subst IsWanted (sym e) tt)
+body-wanted next (refusal k) f h e = absurd (subst IsWanted (sym e) tt)
 
 -- ---- the reply to one call
 

@@ -19,7 +19,7 @@ use Rattle.host.specs.declared.call.Draw.{Draw}
 use Rattle.host.specs.declared.call.Draw.the-variants as draw
 use Rattle.host.specs.declared.call.Call.{Call}
 use Rattle.host.specs.declared.call.Call.the-variants as call
-use Rattle.answer.specs.Answers.{answerLength, Found, found, wanted, refusedBy, onFound, verdictAt, flagAt, irkAt, addressAt, nonceAt, passKeyAt, ltkAt, edivAt, randAt, encryptionAt, bondedAt}
+use Rattle.answer.specs.Answers.{answerLength, Found, found, wanted, refusal, onFound, verdictAt, flagAt, irkAt, addressAt, nonceAt, passKeyAt, ltkAt, edivAt, randAt, encryptionAt, bondedAt}
 use Rattle.answer.specs.declared.AddressResult.{AddressResult}
 use Rattle.answer.specs.declared.BondResult.{BondResult}
 use Rattle.answer.specs.declared.OptionBondResult.{OptionBondResult}
@@ -100,7 +100,7 @@ replyFound anOptionBond c s at = bondedAt s at
 abbrev pub taken : {X : Type 0} → ℕ → Found X → Taken X
 taken next (found x) = got x next
 taken next wanted = wants
-taken next (refusedBy n) = refused
+taken next (refusal n) = refused
 
 -- an answer has one octet of kind, then a body of the length that the call fixes
 abbrev pub answerSize : Call → ℕ

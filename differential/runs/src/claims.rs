@@ -48,7 +48,7 @@ pub enum Claim {
     HeadEnds,
     /// Both bonds hold the LTK that the head sent, cut to the negotiated size, and its EDIV and Rand.
     SameBonds,
-    /// Any passkey shown, at either end, is the shared one.
+    /// The shared passkey was shown once by an end that the method has show it, and none else.
     Shown,
 }
 
@@ -91,7 +91,6 @@ pub fn check(run: &Run) -> Result<Facts, Violations> {
         });
     }
     encryption(&played, &mut found);
-    shown(run, &played, &mut found);
     let terminal = &played.ends[0].machine;
     found.unless(terminal[machine::PHASE] == 9, Claim::TerminalEnds, || standing("terminal", terminal));
     let facts = with_answer(run, &played, &mut found);
@@ -118,14 +117,13 @@ fn encryption(played: &Played, found: &mut Violations) {
     }
 }
 
-/// Event 0x22 at either end: the passkey that is drawn and typed.
-fn shown(run: &Run, played: &Played, found: &mut Violations) {
-    for (end, name) in played.ends.iter().zip(["terminal", "head"]) {
-        for body in end.bodies(0x22) {
-            found.unless(body == run.shared.shown.to_le_bytes(), Claim::Shown, || {
-                format!("the {name} shows {body:02x?}, and {} is shared", run.shared.shown)
-            });
-        }
+/// Event 0x22 at either end: the passkey that is drawn and typed, where the method has that end show it.
+fn shown(run: &Run, played: &Played, method: Method, found: &mut Violations) {
+    let passkey = run.shared.shown.to_le_bytes();
+    for (at, shows, name) in [(0, Method::TerminalShows, "terminal"), (1, Method::HeadShows, "head")] {
+        let due: &[&[u8]] = if method == shows { &[&passkey] } else { &[] };
+        let bodies = played.ends[at].bodies(0x22);
+        found.unless(bodies == due, Claim::Shown, || format!("the {name} shows {bodies:02x?}, and {due:02x?} is due"));
     }
 }
 
@@ -143,6 +141,7 @@ fn with_answer(run: &Run, played: &Played, found: &mut Violations) -> Option<Fac
     let method = method::choose(request, answer);
     found.unless(method.is_some(), Claim::Answered, || "request or answer is no record".into());
     let method = method?;
+    shown(run, played, method, found);
     let both_bond = bonds(request) && bonds(answer);
     let named = (answer[4] & 3).count_ones() + (answer[5] & 3).count_ones();
     let keys = if both_bond { named as usize } else { 0 };
@@ -196,7 +195,11 @@ fn same_bonds(size: usize, played: &Played, found: &mut Violations) {
     for (end, name) in played.ends.iter().zip(["terminal", "head"]) {
         found.unless(end.machine[machine::BOND_PRESENT] == 1, claim, || format!("the {name} has no bond"));
         let bond = &end.machine[machine::BOND..];
-        found.unless(bond[..16] == cut[..], claim, || format!("the {name}'s LTK is not the one sent, cut to {size} octets"));
-        found.unless(bond[16..26] == **identification, claim, || format!("the {name}'s EDIV or Rand is not the one sent"));
+        found.unless(bond[..16] == cut[..], claim, || {
+            format!("the {name}'s LTK is not the one sent, cut to {size} octets")
+        });
+        found.unless(bond[16..26] == **identification, claim, || {
+            format!("the {name}'s EDIV or Rand is not the one sent")
+        });
     }
 }

@@ -228,11 +228,17 @@ fn other_bonds() {
 }
 
 #[test]
-fn another_passkey_shown() {
-    for (at, method) in [(0, Method::TerminalShows), (1, Method::HeadShows)] {
-        let mut run = run_where(|_, facts| facts.method == method);
+fn another_passkey_shown_or_one_too_many() {
+    for (at, shows) in [(0, Method::TerminalShows), (1, Method::HeadShows)] {
+        let mut run = run_where(|_, facts| facts.method == shows);
         change_body(&mut run, at, 0x22, 0);
         assert_eq!(violated(&run), [Claim::Shown]);
+        for method in [Method::JustWorks, Method::BothType, Method::OutOfBand, shows] {
+            let mut run = run_where(|_, facts| facts.method == method);
+            let call = [&[0x22][..], &run.shared.shown.to_le_bytes()].concat();
+            add_call(&mut run, at, &call, &[0x22, 0]);
+            assert_eq!(violated(&run), [Claim::Shown], "{method:?}");
+        }
     }
 }
 
