@@ -12,15 +12,10 @@ use lib.Seq.{length-take-le, drop-cons, drop-drop, drop-append-seam, getD-at}
 use Rattle.octets.specs.Answer.{Answer, refused, accepted, andThen}
 use Rattle.types.proofs.Tables.{refused≢accepted}
 use Rattle.host.specs.Calls.{kindOf, bodyOf, callOctets, callsOctets, bodyLength}
-use Rattle.call_list.specs.CallList.{begins, callsFrom, callsOf, noCall, checkedOf, countOf, callIn, callAtOf}
+use Rattle.call_list.specs.CallList.{begins, callsFrom, callsOf, noCall, checkedOf, countOf, callIn, callAtOf, sizeOf}
 use Rattle.host.specs.declared.call.Call.{Call}
 use Rattle.call_list.specs.declared.CallRecord.{CallRecord}
 use Rattle.host.proofs.Writing.{body-length}
-
--- the length of a body, 0 where the kind is unknown
-abbrev sizeOf : Option ℕ → ℕ
-sizeOf none = 0
-sizeOf (some n) = n
 
 -- ---- a body is passed over, or it is cut
 

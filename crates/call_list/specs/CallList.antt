@@ -44,6 +44,11 @@ callIn (c ∷ calls) (suc i) = callIn calls i
 unfoldable pub callAtOf : List ℕ → ℕ → Answer (Option CallRecord)
 callAtOf l i = andThen (callsOf l) (λ calls. accepted (callIn calls i))
 
+-- the length of a body, 0 where the kind is unknown
+abbrev pub sizeOf : Option ℕ → ℕ
+sizeOf none = 0
+sizeOf (some n) = n
+
 -- ---- the code's cases
 
 abbrev pub noCall : CallRecord
