@@ -1,4 +1,6 @@
 // AES-128 of FIPS 197. A state and a round key are four columns, each a number of four octets, the first octet lowest.
+#![tactic(auto)]
+
 ghost use Rattle.std.specs.Prelude.{◌≡◌, [], ◌∷◌, ◌/◌, ◌%◌};
 ghost use Rattle.aes.specs.Gf.{sub_byte, xtime};
 ghost use Rattle.aes.specs.Aes.{sub_bytes, shift_rows, mix_column, mix_columns, add_round_key, full_round, key_expansion, aes128};

@@ -1,5 +1,7 @@
 // Answers: records of one octet of kind, the call's, and a body whose length the kind fixes; read at a place. The first
 // case of each is the answer, the second why there is none.
+#![tactic(auto)]
+
 ghost use Rattle.std.specs.Prelude.{◌≡◌};
 ghost use Rattle.host.specs.Calls.{question_kind};
 ghost use Rattle.answer.specs.Answers.{body_at, framed, verdict_at, flag_at, irk_at, address_at, nonce_at, pass_key_at, ltk_at, ediv_at, rand_at, encryption_at, bonded_at};

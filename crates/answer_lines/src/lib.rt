@@ -1,4 +1,6 @@
 // The answer to a step line: OUTCOME READ WRITTEN MACHINE LIST, with its line feed.
+#![tactic(auto)]
+
 ghost use Rattle.std.specs.Prelude.{◌≡◌, ◌++◌, ◌+◌, ◌*◌, ◌≤◌, ◌<◌, length};
 ghost use Rattle.octets.specs.Octets.{write_at};
 ghost use Rattle.answer_lines.specs.AnswerLines.{decimal, digit_text, digits_text, octets_text, outcome_text, head_text, rest_text, answer_text, malformed_text, TextWritten, text_in, PlacesOf};

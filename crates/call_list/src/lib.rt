@@ -1,4 +1,6 @@
 // Reading a call list: the whole list is checked before anything is returned, and a body's values are not looked at.
+#![tactic(auto)]
+
 ghost use Rattle.std.specs.Prelude.{◌≡◌};
 ghost use Rattle.call_list.specs.CallList.{count_of, call_at_of, count_answer, call_answer, checked_answer, checked_of};
 

@@ -1,5 +1,7 @@
 // legacy_central.rs, its lower part: the confirm value, the method that begins, Mrand, and the keys that are sent. What
 // a function open to legacy_central gives back follows from its inputs alone.
+#![tactic(auto)]
+
 ghost use Rattle.std.specs.Prelude.{◌≡◌, true};
 ghost use Rattle.machine.specs.Machine.{no_confirm_data};
 ghost use Rattle.protocol.specs.Handlers.{names_encryption_key, send_encryption_key};

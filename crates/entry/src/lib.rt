@@ -1,4 +1,6 @@
 // The thin entry of document 01: the head's firmware lends its machine by reference.
+#![tactic(auto)]
+
 ghost use Rattle.std.specs.Prelude.{◌≡◌};
 ghost use Rattle.protocol.specs.Step.{step};
 ghost use Rattle.entry.specs.Entry.{stepped, Keeps};

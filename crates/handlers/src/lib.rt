@@ -1,4 +1,6 @@
 // What the handlers of both roles are made of.
+#![tactic(auto)]
+
 pub mod input;
 pub mod keys;
 pub mod outcome;

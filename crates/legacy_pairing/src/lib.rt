@@ -1,5 +1,7 @@
 // The functions of the static library: C names for octet_steps and octet_values. include/legacy_pairing.h declares them
 // for C, bindings/rust is a safe crate over them. Octet strings run least significant octet first, as on the air.
+#![tactic(auto)]
+
 ghost use Rattle.std.specs.Prelude.{◌≡◌};
 ghost use Rattle.octet_values.specs.Values.{wrote, read_features_on, write_features_on, c1_on, s1_on, counted, count_on, call_left, call_on};
 ghost use Rattle.octet_steps.specs.Steps.{step_left, step_on, new_on};

@@ -2,6 +2,8 @@
 // peripheral_helpers; a state goes in by value, and what it becomes comes back beside the calls made. What
 // legacy_central.rs has in the same words stands in the crate phases: `enter`, `store_confirm_bytes`,
 // `handle_encryption_information`, `handle_identity_information`.
+#![tactic(auto)]
+
 ghost use Rattle.std.specs.Prelude.{◌≡◌};
 ghost use Rattle.host.specs.Calls.{no_trace};
 ghost use Rattle.machine.specs.declared.Phase.TheVariants as phase;

@@ -1,4 +1,6 @@
 // A step line: ROLE LISTLEN MACHINE INPUT PAYLOAD ANSWERS, without its line feed.
+#![tactic(auto)]
+
 ghost use Rattle.std.specs.Prelude.{◌≡◌, ◌+◌, ◌*◌, ◌≤◌, length, drop};
 ghost use Rattle.std.proofs.Math.Option.{none};
 ghost use Rattle.lines.specs.Lines.{most, digit_of, octet_of, octets_in, role_of, room_of, machine_in, link_of, event_alone, command_of, pass_key_of, oob_data_of, input_of};

@@ -1,5 +1,7 @@
 // pairing/mod.rs: the data of a pairing and the inputs of a step. A state of the Rust that holds arrays is a phase here,
 // beside one record of what those states hold.
+#![tactic(auto)]
+
 ghost use Rattle.std.specs.Prelude.{◌≡◌};
 ghost use Rattle.machine.specs.Machine.{new_data, want_bonding, no_confirm_data, kept_by, result_of, is_encrypted, new_machine, lesc_switch, security_level_of};
 

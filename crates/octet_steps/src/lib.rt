@@ -1,5 +1,7 @@
 // Steps and fresh machines on octet slices and numbers: a machine is its record of 161 octets. A refusal leaves the record
 // and the list as they were. Of the two counts, a step refused by 1 to 3 sets both to 0; any other refusal leaves them.
+#![tactic(auto)]
+
 ghost use Rattle.std.specs.Prelude.{◌≡◌, length};
 ghost use Rattle.octets.specs.Answer.{accepted};
 ghost use Rattle.record.specs.Record.{record_size, machine_octets};

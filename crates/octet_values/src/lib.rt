@@ -1,5 +1,7 @@
 // Document 01's operations on octet slices and numbers, for callers that have no types of ours: features, c1 and s1, and
 // reading a call list. Octet strings run least significant octet first, as on the air. A refusal writes nothing.
+#![tactic(auto)]
+
 ghost use Rattle.std.specs.Prelude.{◌≡◌, length};
 ghost use Rattle.octets.specs.Answer.{accepted};
 ghost use Rattle.host.specs.Calls.{body_length};

@@ -1,4 +1,6 @@
 // Numbers of 128 bits and the octet strings that they are read from and written to.
+#![tactic(auto)]
+
 ghost use Rattle.std.specs.Prelude.{◌≡◌, [], ◌∷◌, ◌+◌, ◌≤◌, length, take, drop};
 ghost use Rattle.octets.specs.Octets.{from_octets, to_octets, octets_of, word_of, octets_be, word_be, xor_of, same_word, Written};
 

@@ -1,5 +1,7 @@
 // The host in a handler, in the place of the Rust's `ops` and `rng`: one function for each function of PairingOps and
 // for each draw. Each lists its call, reads the answer where the trace has read to, and moves behind it.
+#![tactic(auto)]
+
 ghost use Rattle.std.specs.Prelude.{◌+◌, ◌≤◌, ◌≡◌, length};
 ghost use Rattle.host.specs.Calls.{push_of, kind_of, question_kind};
 ghost use Rattle.host.specs.declared.call.Question.TheVariants as question;

@@ -1,6 +1,8 @@
 // `pair [--late] SCENE` or `pair [--late] TERMINAL HEAD` plays one pairing of a terminal and a head over the fair link
 // of document 01 and prints it. TERMINAL and HEAD are feature records of 12 hexadecimal digits. The machines are
 // those of octet_steps; that packets and events are delivered as the fair link does is tested.
+#![tactic(auto)]
+
 mod arguments;
 mod buffer;
 mod hosts;

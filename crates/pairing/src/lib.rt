@@ -1,4 +1,6 @@
 // pairing/mod.rs: dispatch. One step of a machine of either role, on answers and a list that are lent.
+#![tactic(auto)]
+
 ghost use Rattle.std.specs.Prelude.{◌≡◌};
 ghost use Rattle.host.specs.Calls.{no_trace};
 ghost use Rattle.protocol.specs.declared.Outcome.TheVariants as outcome;

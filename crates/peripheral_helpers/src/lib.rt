@@ -1,5 +1,7 @@
 // legacy_peripheral.rs, its lower part: the confirm value, the response, the method that begins, Srand, and the keys that
 // are sent. What a function open to legacy_peripheral gives back follows from its inputs alone.
+#![tactic(auto)]
+
 ghost use Rattle.std.specs.Prelude.{◌≡◌, true};
 ghost use Rattle.types.specs.Types.{encryption_key_flag, identity_key_flag};
 ghost use Rattle.answer.specs.Answers.{flag_answer, stop_of};

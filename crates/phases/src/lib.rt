@@ -1,4 +1,6 @@
 // Handlers that both roles have: the functions that legacy_peripheral.rs and legacy_central.rs have in the same words.
+#![tactic(auto)]
+
 ghost use Rattle.std.specs.Prelude.{◌≡◌, true};
 ghost use Rattle.types.specs.declared.types.Command.TheVariants as command;
 ghost use Rattle.machine.specs.Machine.{no_confirm_data};

@@ -1,5 +1,7 @@
 // pairing/mod.rs: what a step comes to. The definitions of both roles, of a step and of the fair link stand in specs/,
 // their laws in proofs/.
+#![tactic(auto)]
+
 use machine::Machine;
 
 // How a step came out.

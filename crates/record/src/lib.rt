@@ -1,4 +1,6 @@
 // The machine record: a machine of either role as 161 octets, and the machine that is read of them.
+#![tactic(auto)]
+
 ghost use Rattle.std.specs.Prelude.{◌≡◌, ◌∷◌, ◌++◌, ◌+◌, ◌≤◌, length, get_or};
 ghost use Rattle.octets.specs.Answer.{refused};
 ghost use Rattle.octets.specs.Octets.{octets_of, write_at, Written};

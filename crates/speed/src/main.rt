@@ -1,6 +1,8 @@
 // Chains of encryptions, for measuring: `speed BLOCKS CONFIRMS` encrypts BLOCKS blocks with aes::encrypt and works out
 // CONFIRMS values with crypto::c1, each from the two before it, and writes the last of each chain.
 // bench/plain.c does the same in C; what the two write is the same.
+#![tactic(auto)]
+
 ghost use Rattle.std.specs.Prelude.{◌≡◌};
 
 use crypto::Nonce;

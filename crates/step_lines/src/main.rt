@@ -1,5 +1,7 @@
 // Answers step lines from standard input, to its end: a shell over `lines`, `answer_lines` and the entry by reference. What it does
 // with the lines is proved there; that it cuts its input at line feeds, and answers a last line without one as malformed, is tested.
+#![tactic(auto)]
+
 ghost use Rattle.std.specs.Prelude.{◌≤◌, ◌<◌, length};
 
 use answer_lines::{Wrote, write_answer, write_malformed};

@@ -1,4 +1,6 @@
 // The method of a pairing and the security level that it gives ([Vol 3] Part H, Section 2.3.5.1).
+#![tactic(auto)]
+
 pub mod connection;
 pub mod util;
 

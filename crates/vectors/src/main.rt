@@ -1,6 +1,8 @@
 // Published sample data, run through the library: what came, and whether it is right. The expected values are those of
 // FIPS 197 (appendices A.1, B and C.1), SP 800-38A (F.1.1) and Core Specification Vol 3 Part H (2.2.3 and 2.2.4),
 // numbers of 128 bits, here in two halves, the more significant first.
+#![tactic(auto)]
+
 ghost use Rattle.std.specs.Prelude.{◌≤◌};
 
 use crypto::Nonce;
