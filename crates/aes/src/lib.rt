@@ -7,7 +7,7 @@ ghost use Rattle.aes.specs.Aes.{sub_bytes, shift_rows, mix_column, mix_columns, 
 ghost use Rattle.aes.specs.Columns.{octet, four, octets, substitution, next_key};
 
 // Four columns of a state, or four words of a round key.
-#[derive(Drop)]
+#[derive(Clone, Copy)]
 struct Block {
     a: u32,
     b: u32,

@@ -18,99 +18,99 @@ use octets::{read_16, read_u16, read_u32, read_u64, read_word};
 use types::PassKey;
 
 // Why there is no answer: the answers end here, or what is here is refused by 3.
-#[derive(Drop)]
+#[derive(Clone, Copy)]
 pub enum Stop {
     Wanted,
     Refused,
 }
 
 // The place of an answer's body.
-#[derive(Drop)]
+#[derive(Clone, Copy)]
 enum Frame {
     Body(usize),
     Stop(Stop),
 }
 
 // A verdict: 0 done, 1 out of memory, others a host error.
-#[derive(Drop)]
+#[derive(Clone, Copy)]
 pub enum VerdictAnswer {
     Verdict(u8),
     Stop(Stop),
 }
 
-#[derive(Drop)]
+#[derive(Clone, Copy)]
 pub enum FlagAnswer {
     Flag(bool),
     Stop(Stop),
 }
 
-#[derive(Drop)]
+#[derive(Clone, Copy)]
 pub enum IrkAnswer {
     Irk(IdentityResolvingKey),
     Stop(Stop),
 }
 
-#[derive(Drop)]
+#[derive(Clone, Copy)]
 pub enum AddressResult {
     Ok(Address),
     Err(Error),
 }
 
-#[derive(Drop)]
+#[derive(Clone, Copy)]
 pub enum AddressAnswer {
     Address(AddressResult),
     Stop(Stop),
 }
 
-#[derive(Drop)]
+#[derive(Clone, Copy)]
 pub enum NonceAnswer {
     Nonce(Nonce),
     Stop(Stop),
 }
 
-#[derive(Drop)]
+#[derive(Clone, Copy)]
 pub enum PassKeyAnswer {
     PassKey(PassKey),
     Stop(Stop),
 }
 
-#[derive(Drop)]
+#[derive(Clone, Copy)]
 pub enum LongTermKeyAnswer {
     LongTermKey(LongTermKey),
     Stop(Stop),
 }
 
-#[derive(Drop)]
+#[derive(Clone, Copy)]
 pub enum EdivAnswer {
     Ediv(u16),
     Stop(Stop),
 }
 
-#[derive(Drop)]
+#[derive(Clone, Copy)]
 pub enum RandAnswer {
     Rand(u64),
     Stop(Stop),
 }
 
-#[derive(Drop)]
+#[derive(Clone, Copy)]
 pub enum BondResult {
     Ok(BondInformation),
     Err(Error),
 }
 
-#[derive(Drop)]
+#[derive(Clone, Copy)]
 pub enum EncryptionAnswer {
     Encryption(BondResult),
     Stop(Stop),
 }
 
-#[derive(Drop)]
+#[derive(Clone, Copy)]
 pub enum OptionBondResult {
     Ok(OptionBond),
     Err(Error),
 }
 
-#[derive(Drop)]
+#[derive(Clone, Copy)]
 pub enum BondedEncryptionAnswer {
     BondedEncryption(OptionBondResult),
     Stop(Stop),

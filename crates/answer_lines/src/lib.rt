@@ -11,14 +11,14 @@ use protocol::{Outcome, Stepped};
 use record::write_machine;
 
 // Whether a text was written, and its octets.
-#[derive(Drop)]
+#[derive(Clone, Copy)]
 pub enum Wrote {
     Octets(usize),
     NoRoom,
 }
 
 // A text in a buffer that is filled from its end: it begins at a place.
-#[derive(Drop)]
+#[derive(Clone, Copy)]
 struct Text {
     octets: [u8; 96],
     at: usize,

@@ -10,7 +10,7 @@ use octets::{read_u16, read_u32, read_u64, read_word, split};
 use types::Reason;
 
 // A device address of six octets: `low + 2^32 * high`, so that every value is one.
-#[derive(Drop)]
+#[derive(Clone, Copy)]
 pub struct BdAddr {
     pub low: u32,
     pub high: u16,
@@ -42,7 +42,7 @@ impl BdAddr {
 }
 
 // A device address and its kind. Kind 0 is public; every other octet is kept.
-#[derive(Drop)]
+#[derive(Clone, Copy)]
 pub struct Address {
     pub kind: u8,
     pub addr: BdAddr,
@@ -88,7 +88,7 @@ pub fn read_address(s: &[u8], at: usize) -> Address
 }
 
 // Why a pairing failed.
-#[derive(Drop)]
+#[derive(Clone, Copy)]
 pub enum Error {
     Security(Reason),
     InvalidState,
@@ -132,7 +132,7 @@ pub fn flag(b: bool) -> u8
 }
 
 // What reading a yes/no octet gives.
-#[derive(Drop)]
+#[derive(Clone, Copy)]
 pub enum TryFlag {
     Ok(bool),
     InvalidValue,
@@ -152,14 +152,14 @@ pub fn read_flag(octet: u8) -> TryFlag
 }
 
 // Identity of a peer device: its identity address, and its IRK (all zero: none).
-#[derive(Drop)]
+#[derive(Clone, Copy)]
 pub struct Identity {
     pub addr: Address,
     pub irk: IdentityResolvingKey,
 }
 
 // What the host keeps of a pairing.
-#[derive(Drop)]
+#[derive(Clone, Copy)]
 pub struct BondInformation {
     pub ltk: LongTermKey,
     pub ediv: u16,
@@ -171,7 +171,7 @@ pub struct BondInformation {
 }
 
 // A bond, or none.
-#[derive(Drop)]
+#[derive(Clone, Copy)]
 pub enum OptionBond {
     Some(BondInformation),
     None,
@@ -199,7 +199,7 @@ impl OptionBond {
 }
 
 // What reading a bond gives.
-#[derive(Drop)]
+#[derive(Clone, Copy)]
 pub enum TryBond {
     Ok(BondInformation),
     InvalidValue,

@@ -7,21 +7,21 @@ ghost use Rattle.call_list.specs.CallList.{count_of, call_at_of, count_answer, c
 use host::call::{BodyLength, body_length};
 
 // A call of a list: its kind, and the place of its body.
-#[derive(Drop)]
+#[derive(Clone, Copy)]
 pub struct CallRecord {
     pub kind: u8,
     pub body: usize,
 }
 
 // The number of calls of a list, or its refusal.
-#[derive(Drop)]
+#[derive(Clone, Copy)]
 pub enum CallCount {
     Calls(usize),
     Refused(u8),
 }
 
 // A call of a list, or that there is none at this index, or the list's refusal.
-#[derive(Drop)]
+#[derive(Clone, Copy)]
 pub enum CallAt {
     Call(CallRecord),
     None,
@@ -29,7 +29,7 @@ pub enum CallAt {
 }
 
 // A list that was checked: the number of its calls, and the call at one index (zeros where there is none).
-#[derive(Drop)]
+#[derive(Clone, Copy)]
 enum Checked {
     List(usize, CallRecord),
     Refused,

@@ -6,7 +6,7 @@ ghost use Rattle.crypto.specs.Crypto.{e_of, p1_of, p2_of, c1_of, s1_of, masked_o
 use octets::Word128;
 
 // A Long Term Key, or a Short Term Key in its place.
-#[derive(Drop)]
+#[derive(Clone, Copy)]
 pub struct LongTermKey(pub Word128);
 
 impl LongTermKey {
@@ -46,7 +46,7 @@ impl LongTermKey {
 }
 
 // An Identity Resolving Key; all zero stands for none.
-#[derive(Drop)]
+#[derive(Clone, Copy)]
 pub struct IdentityResolvingKey(pub Word128);
 
 impl IdentityResolvingKey {
@@ -66,7 +66,7 @@ impl IdentityResolvingKey {
 }
 
 // A random number of 128 bits, Mrand or Srand.
-#[derive(Drop)]
+#[derive(Clone, Copy)]
 pub struct Nonce(pub Word128);
 
 impl Nonce {
@@ -84,7 +84,7 @@ impl Nonce {
 }
 
 // A confirm value, Mconfirm or Sconfirm.
-#[derive(Drop)]
+#[derive(Clone, Copy)]
 pub struct Confirm(pub Word128);
 
 // The low n octets of x.

@@ -10,7 +10,7 @@ pub use pairing::Outcome;
 use pairing::{Stepped, step};
 
 // What a step came to, beside the machine: how it came out, and the octets of answers read and of the list written.
-#[derive(Drop)]
+#[derive(Clone, Copy)]
 pub struct StepResult {
     pub outcome: Outcome,
     pub read: usize,

@@ -21,7 +21,7 @@ pub fn is_command(input: Input, command: Command) -> bool
     }
 }
 
-#[derive(Drop)]
+#[derive(Clone, Copy)]
 pub enum LinkEncrypted {
     Result(bool),
     Other,
@@ -43,7 +43,7 @@ pub fn link_encrypted(input: Input) -> LinkEncrypted
     }
 }
 
-#[derive(Drop)]
+#[derive(Clone, Copy)]
 pub enum PassKeyTyped {
     Input(u32),
     Other,
@@ -79,7 +79,7 @@ pub fn is_pass_key_cancel(input: Input) -> bool
     }
 }
 
-#[derive(Drop)]
+#[derive(Clone, Copy)]
 pub enum OobData {
     Received(Word128),
     Other,

@@ -20,20 +20,20 @@ use ops::{
 };
 use types::KeyDistributionFlags;
 
-#[derive(Drop)]
+#[derive(Clone, Copy)]
 pub struct EncryptionKeys {
     pub ltk: LongTermKey,
     pub ediv: u16,
     pub rand: u64,
 }
 
-#[derive(Drop)]
+#[derive(Clone, Copy)]
 pub enum TakenKeys {
     Ok(EncryptionKeys),
     Stop(Stop),
 }
 
-#[derive(Drop)]
+#[derive(Clone, Copy)]
 pub struct AskedKeys {
     pub trace: Trace,
     pub answer: TakenKeys,

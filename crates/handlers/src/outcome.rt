@@ -9,14 +9,14 @@ use host::Trace;
 use machine::{ConfirmPhaseData, Machine, PairingData, Phase};
 use ops::{Delivered, Halt};
 
-#[derive(Drop)]
+#[derive(Clone, Copy)]
 pub enum End {
     Next(Phase),
     Not(Halt),
 }
 
 // The Rust's Result of the next state, beside the data that a handler may have changed.
-#[derive(Drop)]
+#[derive(Clone, Copy)]
 pub struct Outcome {
     pub trace: Trace,
     pub confirm_data: ConfirmPhaseData,
@@ -109,14 +109,14 @@ impl Outcome {
     }
 }
 
-#[derive(Drop)]
+#[derive(Clone, Copy)]
 pub enum Finish {
     Ended,
     Stop(Stop),
 }
 
 // The machine behind an input; where it stopped, the machine before it.
-#[derive(Drop)]
+#[derive(Clone, Copy)]
 pub struct Finished {
     pub trace: Trace,
     pub machine: Machine,
@@ -124,7 +124,7 @@ pub struct Finished {
 }
 
 // What sending a confirm value gives: the data with the nonce drawn.
-#[derive(Drop)]
+#[derive(Clone, Copy)]
 pub struct ConfirmSent {
     pub trace: Trace,
     pub confirm_data: ConfirmPhaseData,
@@ -132,7 +132,7 @@ pub struct ConfirmSent {
 }
 
 // What a part of a handler gives that changes the pairing data alone.
-#[derive(Drop)]
+#[derive(Clone, Copy)]
 pub struct DataSent {
     pub trace: Trace,
     pub pairing_data: PairingData,

@@ -12,7 +12,7 @@ use bond::{Address, read_address};
 use octets::{Word128, read_u16, read_u64, read_word};
 use types::{Command, Decoded, PairingFeatures, Reason};
 
-#[derive(Drop)]
+#[derive(Clone, Copy)]
 pub enum TryWord {
     Ok(Word128),
     WrongLength,
@@ -28,14 +28,14 @@ pub fn read_payload_word(payload: &[u8]) -> TryWord
     TryWord::Ok(read_word(payload, 0))
 }
 
-#[derive(Drop)]
+#[derive(Clone, Copy)]
 pub enum TryFeatures {
     Ok(PairingFeatures),
     InvalidParameters,
 }
 
 // A request or a response, and its octets with the code before them, for c1; zeros where it is none.
-#[derive(Drop)]
+#[derive(Clone, Copy)]
 pub struct ReadFeatures {
     pub octets: [u8; 7],
     pub features: TryFeatures,
@@ -87,7 +87,7 @@ pub fn response_octets(features: PairingFeatures) -> [u8; 7]
 }
 
 // EDIV and Rand.
-#[derive(Drop)]
+#[derive(Clone, Copy)]
 pub enum TryIdentification {
     Ok { ediv: u16, rand: u64 },
     InvalidParameters,
@@ -104,7 +104,7 @@ pub fn read_identification(payload: &[u8]) -> TryIdentification
     TryIdentification::Ok { ediv, rand }
 }
 
-#[derive(Drop)]
+#[derive(Clone, Copy)]
 pub enum TryAddress {
     Ok(Address),
     InvalidValue,

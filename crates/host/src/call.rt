@@ -11,7 +11,7 @@ use octets::{split, write, write_word};
 use types::{Command, PairingFeatures, PassKey};
 
 // A packet to the peer (util.rs makes them).
-#[derive(Drop)]
+#[derive(Clone, Copy)]
 pub enum Packet {
     PairingResponse(PairingFeatures),
     PairingConfirm(Confirm),
@@ -23,7 +23,7 @@ pub enum Packet {
 }
 
 // An event to the host's user (connection.rs).
-#[derive(Drop)]
+#[derive(Clone, Copy)]
 pub enum ConnectionEvent {
     PairingFailed(Error),
     PairingComplete {
@@ -37,7 +37,7 @@ pub enum ConnectionEvent {
 }
 
 // A question to the host.
-#[derive(Drop)]
+#[derive(Clone, Copy)]
 pub enum Question {
     FindBond,
     LocalIrk,
@@ -47,7 +47,7 @@ pub enum Question {
 }
 
 // A draw of the generator.
-#[derive(Drop)]
+#[derive(Clone, Copy)]
 pub enum Draw {
     Nonce,
     PassKey,
@@ -56,7 +56,7 @@ pub enum Draw {
     Rand,
 }
 
-#[derive(Drop)]
+#[derive(Clone, Copy)]
 pub enum Call {
     SendPacket(Packet),
     SendConnectionEvent(ConnectionEvent),
@@ -336,7 +336,7 @@ impl Call {
 }
 
 // The length of the body that a kind fixes, or that there is no such kind of call.
-#[derive(Drop)]
+#[derive(Clone, Copy)]
 pub enum BodyLength {
     Octets(usize),
     Unknown,
@@ -380,7 +380,7 @@ pub fn body_length(kind: u8) -> BodyLength
 pub const LONGEST: usize = 164;
 
 // What a step has done so far: the octets of the calls that it has listed, and how many octets of answers it has read.
-#[derive(Drop)]
+#[derive(Clone, Copy)]
 pub struct Trace {
     pub octets: [u8; LONGEST],
     pub len: usize,

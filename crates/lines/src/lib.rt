@@ -18,7 +18,7 @@ use types::IoCapabilities;
 pub const MOST: usize = 4096;
 
 // Whether a line was read: it is malformed, or a lent buffer has no room.
-#[derive(Drop)]
+#[derive(Clone, Copy)]
 pub enum Reading {
     Ok,
     Malformed,
@@ -28,7 +28,7 @@ pub enum Reading {
 // What reading a line gives: the length of the list to lend, and how many octets of payload and answers stand at the
 // front of the lent buffers. Where the line was not read, the rest is that of no line: a central with no list, a fresh
 // head of no address, command 0.
-#[derive(Drop)]
+#[derive(Clone, Copy)]
 pub struct ReadLine {
     pub reading: Reading,
     pub role: Role,
@@ -40,7 +40,7 @@ pub struct ReadLine {
 }
 
 // A digit's value, or the octet of two digits.
-#[derive(Drop)]
+#[derive(Clone, Copy)]
 enum Digit {
     Value(u8),
     None,
@@ -79,7 +79,7 @@ fn octet(high: u8, low: u8) -> Digit
 }
 
 // A number that was read, or the number of octets in a field.
-#[derive(Drop)]
+#[derive(Clone, Copy)]
 enum Number {
     Value(usize),
     Malformed,
@@ -151,7 +151,7 @@ fn put_field(text: &[u8], out: &mut [u8])
 }
 
 // What reading a role gives.
-#[derive(Drop)]
+#[derive(Clone, Copy)]
 enum TryRole {
     Ok(Role),
     Malformed,
@@ -226,7 +226,7 @@ fn read_machine_field(role: Role, text: &[u8]) -> ReadMachine
 }
 
 // What reading an input gives.
-#[derive(Drop)]
+#[derive(Clone, Copy)]
 enum TryInput {
     Ok(Input),
     Malformed,
@@ -329,7 +329,7 @@ fn may_carry(input: Input, payload: usize) -> bool
 }
 
 // Where the first five of six fields end; each next one begins one place behind.
-#[derive(Drop)]
+#[derive(Clone, Copy)]
 struct Ends {
     role: usize,
     room: usize,
@@ -339,7 +339,7 @@ struct Ends {
 }
 
 // What splitting a line gives.
-#[derive(Drop)]
+#[derive(Clone, Copy)]
 enum Split {
     Fields(Ends),
     Malformed,

@@ -12,7 +12,7 @@ use types::{BondingFlag, Command, IoCapabilities, PairingFeatures};
 use util::PairingMethod;
 
 // The end that a machine stands for.
-#[derive(Drop)]
+#[derive(Clone, Copy)]
 pub enum Role {
     // the terminal, initiator
     Central,
@@ -20,7 +20,7 @@ pub enum Role {
     Peripheral,
 }
 
-#[derive(Drop)]
+#[derive(Clone, Copy)]
 pub struct PairingData {
     pub local_address: Address,
     pub peer_address: Address,
@@ -68,7 +68,7 @@ impl PairingData {
 }
 
 // Data needed during the confirm/random exchange phase of legacy pairing.
-#[derive(Drop)]
+#[derive(Clone, Copy)]
 pub struct ConfirmPhaseData {
     // TK: 0 for JustWorks, passkey value for PassKey Entry
     pub tk: Word128,
@@ -81,14 +81,14 @@ pub struct ConfirmPhaseData {
 }
 
 // The confirm value that came while a passkey was typed, or none.
-#[derive(Drop)]
+#[derive(Clone, Copy)]
 pub enum ConfirmBytes {
     Some(Confirm),
     None,
 }
 
 // A state of either role, without the arrays that it holds: those stand in `ConfirmPhaseData`.
-#[derive(Drop)]
+#[derive(Clone, Copy)]
 pub enum Phase {
     // the peripheral's first state
     WaitingPairingRequest,
@@ -114,7 +114,7 @@ pub enum Phase {
 }
 
 // What a pairing came to.
-#[derive(Drop)]
+#[derive(Clone, Copy)]
 pub enum PairingResult {
     // it goes on
     Pending,
@@ -213,7 +213,7 @@ impl ConfirmPhaseData {
 }
 
 // A pairing machine of either role.
-#[derive(Drop)]
+#[derive(Clone, Copy)]
 pub struct Machine {
     pub phase: Phase,
     pub confirm_data: ConfirmPhaseData,
@@ -287,7 +287,7 @@ impl Machine {
 }
 
 // An event of the host that is an input.
-#[derive(Drop)]
+#[derive(Clone, Copy)]
 pub enum Event {
     LinkEncryptedResult(bool),
     PassKeyConfirm,
@@ -298,7 +298,7 @@ pub enum Event {
 }
 
 // An input of a step: a command code, any octet, whose payload is lent beside it; or an event.
-#[derive(Drop)]
+#[derive(Clone, Copy)]
 pub enum Input {
     Command(u8),
     Event(Event),

@@ -32,7 +32,7 @@ pub const EVENT_DATA: u8 = 28;
 pub const WANTS: u8 = 255;
 
 // What reading a role gives.
-#[derive(Drop)]
+#[derive(Clone, Copy)]
 enum TryRole {
     Ok(Role),
     None,
@@ -50,7 +50,7 @@ fn role_of(role: u8) -> TryRole
 }
 
 // What reading an input gives.
-#[derive(Drop)]
+#[derive(Clone, Copy)]
 enum TryInput {
     Ok(Input),
     Refused(u8),

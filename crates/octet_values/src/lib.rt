@@ -40,7 +40,7 @@ pub fn put(octets: &[u8], out: &mut [u8]) -> u8
 }
 
 // What reading an address gives.
-#[derive(Drop)]
+#[derive(Clone, Copy)]
 pub enum TryAddress {
     Ok(Address),
     WrongLength,
@@ -97,7 +97,7 @@ pub fn write_features(
 }
 
 // What reading a word gives.
-#[derive(Drop)]
+#[derive(Clone, Copy)]
 enum TryWord {
     Ok(Word128),
     WrongLength,

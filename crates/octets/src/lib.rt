@@ -5,7 +5,7 @@ ghost use Rattle.std.specs.Prelude.{◌≡◌, [], ◌∷◌, ◌+◌, ◌≤◌
 ghost use Rattle.octets.specs.Octets.{from_octets, to_octets, octets_of, word_of, octets_be, word_be, xor_of, same_word, Written};
 
 // A number of 128 bits: `low + 2^64 * high`.
-#[derive(Drop)]
+#[derive(Clone, Copy)]
 pub struct Word128 {
     pub low: u64,
     pub high: u64,

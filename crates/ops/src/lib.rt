@@ -25,105 +25,105 @@ use crypto::LongTermKey;
 use host::{Call, ConnectionEvent, Draw, Packet, Question, Trace};
 
 // Why a handler goes no further: the Rust's Err of `?`, or no answer.
-#[derive(Drop)]
+#[derive(Clone, Copy)]
 pub enum Halt {
     Failed(Error),
     Stop(Stop),
 }
 
 // What became of a packet, an event or an update of the bond.
-#[derive(Drop)]
+#[derive(Clone, Copy)]
 pub enum Delivered {
     Yes,
     Not(Halt),
 }
 
-#[derive(Drop)]
+#[derive(Clone, Copy)]
 pub struct Sent {
     pub trace: Trace,
     pub answer: Delivered,
 }
 
 // Whether a verdict came at all, where its value does not matter.
-#[derive(Drop)]
+#[derive(Clone, Copy)]
 pub enum Attempted {
     Yes,
     Stop(Stop),
 }
 
-#[derive(Drop)]
+#[derive(Clone, Copy)]
 pub struct AskedFlag {
     pub trace: Trace,
     pub answer: FlagAnswer,
 }
 
-#[derive(Drop)]
+#[derive(Clone, Copy)]
 pub struct AskedIrk {
     pub trace: Trace,
     pub answer: IrkAnswer,
 }
 
-#[derive(Drop)]
+#[derive(Clone, Copy)]
 pub struct AskedNonce {
     pub trace: Trace,
     pub answer: NonceAnswer,
 }
 
-#[derive(Drop)]
+#[derive(Clone, Copy)]
 pub struct AskedPassKey {
     pub trace: Trace,
     pub answer: PassKeyAnswer,
 }
 
-#[derive(Drop)]
+#[derive(Clone, Copy)]
 pub struct AskedLongTermKey {
     pub trace: Trace,
     pub answer: LongTermKeyAnswer,
 }
 
-#[derive(Drop)]
+#[derive(Clone, Copy)]
 pub struct AskedEdiv {
     pub trace: Trace,
     pub answer: EdivAnswer,
 }
 
-#[derive(Drop)]
+#[derive(Clone, Copy)]
 pub struct AskedRand {
     pub trace: Trace,
     pub answer: RandAnswer,
 }
 
-#[derive(Drop)]
+#[derive(Clone, Copy)]
 pub enum TakenAddress {
     Ok(Address),
     Not(Halt),
 }
 
-#[derive(Drop)]
+#[derive(Clone, Copy)]
 pub struct AskedAddress {
     pub trace: Trace,
     pub answer: TakenAddress,
 }
 
-#[derive(Drop)]
+#[derive(Clone, Copy)]
 pub enum TakenBond {
     Ok(BondInformation),
     Not(Halt),
 }
 
-#[derive(Drop)]
+#[derive(Clone, Copy)]
 pub struct AskedBond {
     pub trace: Trace,
     pub answer: TakenBond,
 }
 
-#[derive(Drop)]
+#[derive(Clone, Copy)]
 pub enum TakenOptionBond {
     Ok(OptionBond),
     Not(Halt),
 }
 
-#[derive(Drop)]
+#[derive(Clone, Copy)]
 pub struct AskedOptionBond {
     pub trace: Trace,
     pub answer: TakenOptionBond,

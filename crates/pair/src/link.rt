@@ -68,7 +68,7 @@ fn take(
     ran
 }
 
-#[derive(Drop)]
+#[derive(Clone, Copy)]
 struct Turned {
     terminal: End,
     head: End,
@@ -179,7 +179,7 @@ fn turn(
 }
 
 // A run that is over: what the terminal called for encryption with, and the number of inputs.
-#[derive(Drop)]
+#[derive(Clone, Copy)]
 struct Played {
     level: u8,
     key_size: u8,

@@ -11,7 +11,7 @@ const DUE: u8 = 1;
 
 const HAD: u8 = 2;
 
-#[derive(Drop)]
+#[derive(Clone, Copy)]
 pub struct End {
     // the packets queued to it stand between these places of its queue
     pub first: usize,
@@ -37,7 +37,7 @@ pub(crate) fn fresh_end() -> End {
 }
 
 // What an end gets as an input.
-#[derive(Drop)]
+#[derive(Clone, Copy)]
 pub enum Given {
     Nothing,
     Packet,
@@ -75,7 +75,7 @@ pub(crate) fn is_nothing(given: Given) -> bool {
     false
 }
 
-#[derive(Drop)]
+#[derive(Clone, Copy)]
 pub struct Next {
     pub role: u8,
     pub given: Given,

@@ -16,7 +16,7 @@ pub(crate) fn send(kind: u8, body: &[u8], queue: &mut [u8], past: usize) -> usiz
     past
 }
 
-#[derive(Drop)]
+#[derive(Clone, Copy)]
 pub struct Ran {
     // the end whose step it is
     pub end: End,
@@ -78,7 +78,7 @@ fn call_listed(
     listed(role, kind, call, ran, queue, records, answers)
 }
 
-#[derive(Drop)]
+#[derive(Clone, Copy)]
 struct Stepped {
     outcome: u8,
     // octets of calls on the list

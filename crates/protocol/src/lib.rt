@@ -5,7 +5,7 @@
 use machine::Machine;
 
 // How a step came out.
-#[derive(Drop)]
+#[derive(Clone, Copy)]
 pub enum Outcome {
     Ended,
     // an answer is wanted: the last call listed has none
@@ -14,7 +14,7 @@ pub enum Outcome {
     Refused(u8),
 }
 
-#[derive(Drop)]
+#[derive(Clone, Copy)]
 pub struct Stepped {
     pub outcome: Outcome,
     pub machine: Machine,

@@ -193,7 +193,7 @@ pub fn write_machine(machine: Machine, record: &mut [u8]) -> bool
 }
 
 // What reading a reason gives.
-#[derive(Drop)]
+#[derive(Clone, Copy)]
 enum TryReason {
     Ok(Reason),
     InvalidValue,
@@ -226,7 +226,7 @@ fn read_reason(detail: u8) -> TryReason
 }
 
 // What reading a phase gives.
-#[derive(Drop)]
+#[derive(Clone, Copy)]
 enum TryPhase {
     Ok(Phase),
     InvalidValue,
@@ -307,7 +307,7 @@ fn read_phase(role: Role, record: &[u8]) -> TryPhase
 }
 
 // What reading a record of features gives.
-#[derive(Drop)]
+#[derive(Clone, Copy)]
 enum TryFeatures {
     Ok(PairingFeatures),
     InvalidValue,
@@ -336,7 +336,7 @@ fn read_features(record: &[u8], at: usize) -> TryFeatures
 }
 
 // What reading a method gives.
-#[derive(Drop)]
+#[derive(Clone, Copy)]
 enum TryMethod {
     Ok(PairingMethod),
     InvalidValue,
@@ -371,7 +371,7 @@ fn read_method(v: u8) -> TryMethod
 }
 
 // What reading a bond or none gives.
-#[derive(Drop)]
+#[derive(Clone, Copy)]
 enum TryOptionBond {
     Ok(OptionBond),
     InvalidValue,
@@ -396,7 +396,7 @@ fn read_option_bond(record: &[u8]) -> TryOptionBond
 }
 
 // What reading the data of a pairing gives: they, or a refusal by its number.
-#[derive(Drop)]
+#[derive(Clone, Copy)]
 enum TryPairingData {
     Ok(PairingData),
     Refused(u8),
@@ -493,14 +493,14 @@ fn is_record_of(record: &[u8], machine: Machine) -> bool
 }
 
 // Whether a record was read, or the number of its refusal.
-#[derive(Drop)]
+#[derive(Clone, Copy)]
 pub enum Reading {
     Ok,
     Refused(u8),
 }
 
 // What reading a record gives. The machine of a refusal is a fresh head of no address.
-#[derive(Drop)]
+#[derive(Clone, Copy)]
 pub struct ReadMachine {
     pub reading: Reading,
     pub machine: Machine,

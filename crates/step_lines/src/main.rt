@@ -82,7 +82,7 @@ fn keep(line: &mut [u8], have: usize, octet: u8) -> usize {
     have
 }
 
-#[derive(Drop)]
+#[derive(Clone, Copy)]
 struct Kept {
     // octets of a line that has not ended
     have: usize,

@@ -2,7 +2,7 @@ ghost use Rattle.std.specs.Prelude.{◌≡◌};
 ghost use Rattle.types.specs.Capabilities.{io_answer, io_code, io_of};
 
 // Device I/O capabilities ([Vol 3] Part H, Section 2.3.2).
-#[derive(Drop)]
+#[derive(Clone, Copy)]
 pub enum IoCapabilities {
     // Display only
     DisplayOnly,
@@ -17,7 +17,7 @@ pub enum IoCapabilities {
 }
 
 // What reading I/O capabilities gives.
-#[derive(Drop)]
+#[derive(Clone, Copy)]
 pub enum TryIoCapabilities {
     Ok(IoCapabilities),
     InvalidValue,

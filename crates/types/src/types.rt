@@ -8,7 +8,7 @@ ghost use Rattle.types.specs.Types.{feature_size, default_features, feature_octe
 use crate::capabilities::{IoCapabilities, TryIoCapabilities};
 
 // Pairing Failed Reason ([Vol 3] Part H, Section 3.5.5).
-#[derive(Drop)]
+#[derive(Clone, Copy)]
 pub enum Reason {
     // Pairing success
     Success,
@@ -99,7 +99,7 @@ impl Reason {
 }
 
 // Security Manager Protocol (SMP) Command ([Vol 3] Part H, Sections 3.5 and 3.6)
-#[derive(Drop)]
+#[derive(Clone, Copy)]
 pub enum Command {
     // Pairing Request (3.5.1)
     PairingRequest,
@@ -132,7 +132,7 @@ pub enum Command {
 }
 
 // What reading a command code gives.
-#[derive(Drop)]
+#[derive(Clone, Copy)]
 pub enum TryCommand {
     Ok(Command),
     InvalidValue,
@@ -207,7 +207,7 @@ impl Command {
 }
 
 // A passkey, or a value for use in numeric comparison
-#[derive(Drop)]
+#[derive(Clone, Copy)]
 pub struct PassKey(pub u32);
 
 impl PassKey {
@@ -220,7 +220,7 @@ impl PassKey {
 }
 
 // Out of band (OOB) authentication data ([Vol 3] Part H, Section 2.3.3).
-#[derive(Drop)]
+#[derive(Clone, Copy)]
 pub enum UseOutOfBand {
     // OOB not present
     NotPresent,
@@ -229,7 +229,7 @@ pub enum UseOutOfBand {
 }
 
 // What reading the OOB data flag gives.
-#[derive(Drop)]
+#[derive(Clone, Copy)]
 pub enum TryUseOutOfBand {
     Ok(UseOutOfBand),
     InvalidValue,
@@ -266,7 +266,7 @@ impl UseOutOfBand {
 }
 
 // Bit field indicating the type of bonding requested ([Vol 3] Part H, Section 3.5.1).
-#[derive(Drop)]
+#[derive(Clone, Copy)]
 pub enum BondingFlag {
     // No bonding
     NoBonding,
@@ -286,7 +286,7 @@ impl BondingFlag {
 }
 
 // AuthReq octet ([Vol 3] Part H, Section 3.5.1).
-#[derive(Drop)]
+#[derive(Clone, Copy)]
 pub struct AuthReq(pub u8);
 
 // The bits of the bonding flag
@@ -368,7 +368,7 @@ impl AuthReq {
 }
 
 // Key Distribution Flags ([Vol 3] Part H, Section 3.6.1).
-#[derive(Drop)]
+#[derive(Clone, Copy)]
 pub struct KeyDistributionFlags(pub u8);
 
 impl KeyDistributionFlags {
@@ -443,7 +443,7 @@ impl KeyDistributionFlags {
 }
 
 // Pairing features used in pairing request and pairing response ([Vol 3] Part H, Sections 3.5.1 and 3.5.2)
-#[derive(Drop)]
+#[derive(Clone, Copy)]
 pub struct PairingFeatures {
     pub io_capabilities: IoCapabilities,
     pub use_oob: UseOutOfBand,
@@ -454,7 +454,7 @@ pub struct PairingFeatures {
 }
 
 // What reading pairing features gives.
-#[derive(Drop)]
+#[derive(Clone, Copy)]
 pub enum Decoded {
     Features(PairingFeatures),
     InsufficientSpace,

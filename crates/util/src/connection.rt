@@ -2,7 +2,7 @@ ghost use Rattle.std.specs.Prelude.{◌≡◌};
 ghost use Rattle.util.specs.Method.{level_code};
 
 // Security level of a connection
-#[derive(Drop)]
+#[derive(Clone, Copy)]
 pub enum SecurityLevel {
     // No encryption and no authentication. All connections start on this security level.
     NoEncryption,

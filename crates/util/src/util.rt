@@ -4,13 +4,13 @@ ghost use Rattle.util.specs.Method.{level_code, security_level, io_method, legac
 use crate::connection::SecurityLevel;
 use types::{IoCapabilities, PairingFeatures};
 
-#[derive(Drop)]
+#[derive(Clone, Copy)]
 pub enum PassKeyEntryAction {
     Display,
     Input,
 }
 
-#[derive(Drop)]
+#[derive(Clone, Copy)]
 pub enum PairingMethod {
     JustWorks,
     NumericComparison,
@@ -53,7 +53,9 @@ pub fn choose_legacy_pairing_method(
     peripheral: PairingFeatures,
 ) -> PairingMethod
     ensures value { result ≡ legacy_method central peripheral }
-    ensures* fact { do ⌜ (result ≡ PairingMethod.JustWorks) ⊎ ((result ≡ (← (⟦PairingMethod::CENTRAL_DISPLAYS⟧).entry)) ⊎ ((result ≡ (← (⟦PairingMethod::PERIPHERAL_DISPLAYS⟧).entry)) ⊎ ((result ≡ (← (⟦PairingMethod::BOTH_INPUT⟧).entry)) ⊎ (result ≡ PairingMethod.OutOfBand)))) ⌝ }
+    ensures known { (result ≡ PairingMethod.JustWorks) ⊎ (result ≡ PairingMethod.CENTRAL_DISPLAYS)
+        ⊎ (result ≡ PairingMethod.PERIPHERAL_DISPLAYS) ⊎ (result ≡ PairingMethod.BOTH_INPUT)
+        ⊎ (result ≡ PairingMethod.OutOfBand) }
 {
     let central_oob = central.use_oob;
     let peripheral_oob = peripheral.use_oob;
