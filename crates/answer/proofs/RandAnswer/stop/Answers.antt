@@ -1,0 +1,7 @@
+-- `answer::RandAnswer::stop` meets its contract. Assumes nothing.
+use borrow.Author.Rules.{rules}
+use Rattle.answer.proofs.Answering.{stop_back}
+use Rattle.answer.proofs.RandAnswer.stop.Goals as goal
+
+pub returns-in-Stop : goal.returns-in-Stop
+returns-in-Stop c = rw (c.in-Stop.is, stop_back)

@@ -1,0 +1,32 @@
+-- `answer::read_irk` meets its contract. Assumes nothing.
+use native.Mathlib.Omega.{arith}
+use Rattle.answer.specs.Answers.{irk_at}
+use Rattle.answer.proofs.Answering.{body_found, body_stopped, on_stop, body_within}
+use borrow.Author.Rules.{rules}
+use Rattle.answer.proofs.read_irk.Goals as goal
+
+pub read_word-requires : goal.read_word-requires
+read_word-requires c =
+    let found = c in
+    let h = body_within _ _ _ found.frame_at.ensures.1 found.in-Body.is in
+    omega arith
+
+pub returns-in-Body : goal.returns-in-Body
+unfolding irk_at
+returns-in-Body c =
+    rw (
+      ← c.kind.ensures,
+      let found = c in
+          body_found _ _ _ found.frame_at.ensures.0 found.in-Body.is,
+      ← c.read_word.ensures,
+    )
+
+pub returns-in-Stop : goal.returns-in-Stop
+unfolding irk_at
+returns-in-Stop c =
+    rw (
+      ← c.kind.ensures,
+      let found = c in
+          body_stopped _ _ _ found.frame_at.ensures.0 found.in-Stop.is,
+      on_stop,
+    )

@@ -1,0 +1,16 @@
+-- `answer_lines::head_of` meets its contract. Assumes nothing.
+use mathlib.Core.Path.{ap, ◌∙◌}
+use mathlib.Core.List.{List, ◌∷◌, ◌++◌}
+use Prim.Native.Nat.{ℕ}
+use Rattle.answer_lines.specs.AnswerLines.{decimal, outcome_text, head_text}
+use borrow.Author.Rules.{rules}
+use Rattle.answer_lines.proofs.head_of.Goals as goal
+
+pub returns : goal.returns
+unfolding head_text
+returns c =
+    let a = c.args in
+    let last = c.put_decimal-last.ensures.0 ∙ ap (λ (l : List ℕ). decimal a.written ++ l) c.put_word.ensures.0 in
+    let counts = c.put_decimal-counts.ensures.0 ∙ ap (λ (l : List ℕ). decimal a.read ++ l) (c.put_word-2.ensures.0 ∙ ap (λ (l : List ℕ). 32 ∷ l) last) in
+    let text = c.put_outcome.ensures.0 ∙ ap (λ (l : List ℕ). outcome_text a.outcome ++ l) (c.put_word-3.ensures.0 ∙ ap (λ (l : List ℕ). 32 ∷ l) counts) in
+    (text, c.put_outcome.ensures.1)

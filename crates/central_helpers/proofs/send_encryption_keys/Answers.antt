@@ -1,0 +1,12 @@
+-- `central_helpers::send_encryption_keys` meets its contract. Assumes nothing.
+use Rattle.protocol.specs.Handlers.{send_encryption_key}
+use borrow.Author.Rules.{rules}
+use Rattle.central_helpers.proofs.send_encryption_keys.Goals as goal
+
+pub returns-then-encryption_key : goal.returns-then-encryption_key
+unfolding send_encryption_key
+returns-then-encryption_key c = rw (← c.encryption_key.ensures, c.if-encryption_key.true) c.send_drawn_keys.ensures
+
+pub returns : goal.returns
+unfolding send_encryption_key
+returns c = rw (← c.encryption_key.ensures, c.if-encryption_key.false)

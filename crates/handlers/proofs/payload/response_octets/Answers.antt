@@ -1,0 +1,6 @@
+-- `handlers::payload::response_octets` meets its contract. Assumes nothing.
+use borrow.Author.Rules.{rules}
+use Rattle.handlers.proofs.payload.response_octets.Goals as goal
+
+pub returns : goal.returns
+returns c = rw (c.encode-f.ensures, c.into_u8.ensures)

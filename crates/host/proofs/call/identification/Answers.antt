@@ -1,0 +1,6 @@
+-- `host::call::identification` meets its contract. Assumes nothing.
+use borrow.Author.Rules.{rules}
+use Rattle.host.proofs.call.identification.Goals as goal
+
+pub returns : goal.returns
+returns c = rw c.split-r.ensures

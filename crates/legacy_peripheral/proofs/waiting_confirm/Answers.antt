@@ -1,0 +1,20 @@
+-- `legacy_peripheral::waiting_confirm` meets its contract. Assumes nothing.
+use mathlib.Core.Path.{◌∙◌, ap, sym}
+use Rattle.ops.specs.Run.{run}
+use Rattle.machine.specs.declared.Machine.{Machine}
+use Rattle.protocol.specs.Handlers.{Handler}
+use Rattle.handlers.proofs.Outcoming.{no_command, on_command_lem, ran_of}
+use borrow.Author.Rules.{rules}
+use Rattle.legacy_peripheral.proofs.waiting_confirm.Goals as goal
+
+pub returns-then-is_command : goal.returns-then-is_command
+returns-then-is_command c =
+    let a = c.args in
+    c.handle_peer_confirm.ensures
+    ∙ ap (λ (h : Handler Machine). run a.answers.now h a.trace) (on_command_lem _ a.input _ _ (sym c.if-is_command.true ∙ c.is_command.ensures))
+
+pub returns : goal.returns
+returns c =
+    let a = c.args in
+    ran_of _ _ _ (c.other_input.ensures a.answers.now)
+    ∙ ap (λ (h : Handler Machine). run a.answers.now h a.trace) (no_command _ a.input _ _ (sym c.if-is_command.false ∙ c.is_command.ensures))

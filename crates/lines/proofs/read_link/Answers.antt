@@ -1,0 +1,31 @@
+-- `lines::read_link` meets its contract. Assumes nothing.
+use mathlib.Core.Path.{◌≡◌, refl, sym, ap, ◌∙◌}
+use mathlib.Core.Option.{none}
+use mathlib.Core.List.{List, [], ◌∷◌}
+use Prim.Native.Nat.{ℕ}
+use lib.ListN.{length}
+use borrow.Author.Tests.{ne_eqb}
+use Rattle.octets.proofs.Lists.{whole}
+use Rattle.lines.specs.Lines.{link_of}
+use borrow.Author.Rules.{rules}
+use Rattle.lines.proofs.read_link.Goals as goal
+
+not_one : (l : List ℕ) → (length l ≡ 1 → ⊥) → link_of l ≡ none
+not_one [] h = refl
+not_one (c ∷ []) h = absurd (h refl)
+not_one (c ∷ d ∷ l) h = refl
+
+pub returns-then-text-ne1 : goal.returns-then-text-ne1
+returns-then-text-ne1 c = sym (not_one c.args.text.now c.if-text-ne1.true)
+
+pub returns-in-48 : goal.returns-in-48
+returns-in-48 c = sym (ap link_of (whole 1 c.args.text.now c.if-text-ne1.false) ∙ rw c.in-48.is)
+
+pub returns-in-49 : goal.returns-in-49
+returns-in-49 c = sym (ap link_of (whole 1 c.args.text.now c.if-text-ne1.false) ∙ rw c.in-49.is)
+
+pub returns-in_default : goal.returns-in_default
+returns-in_default c =
+    sym
+    (ap link_of (whole 1 c.args.text.now c.if-text-ne1.false)
+    ∙ rw (ne_eqb _ _ c.in_default.rest.0.1, ne_eqb _ _ c.in_default.rest.1))

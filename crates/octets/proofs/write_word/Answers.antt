@@ -1,0 +1,6 @@
+-- `octets::write_word` meets its contract. Assumes nothing.
+use borrow.Author.Rules.{rules}
+use Rattle.octets.proofs.write_word.Goals as goal
+
+pub returns : goal.returns
+returns c = rw (← c.to_le_bytes-octets.ensures) c.write.ensures

@@ -1,0 +1,6 @@
+-- `ops::TakenAddress::halt` meets its contract. Assumes nothing.
+use borrow.Author.Rules.{rules}
+use Rattle.ops.proofs.TakenAddress.halt.Goals as goal
+
+pub returns-in-Ok : goal.returns-in-Ok
+returns-in-Ok c = rw c.in-Ok.is

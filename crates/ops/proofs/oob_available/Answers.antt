@@ -1,0 +1,8 @@
+-- `ops::oob_available` meets its contract. Assumes nothing.
+use Rattle.ops.specs.Run.{answer_to}
+use borrow.Author.Rules.{rules}
+use Rattle.ops.proofs.oob_available.Goals as goal
+
+pub returns : goal.returns
+unfolding answer_to
+returns c = c.ask_flag.ensures

@@ -1,0 +1,9 @@
+-- `pair::print::quoted` meets its contract. Assumes nothing.
+use Rattle.std.proofs.Common.{◌-◌, ◌≤◌, length, rules}
+use Rattle.pair.proofs.print.quoted.Given as goal
+
+abbrev pub invariant-loop-i : goal.invariant-loop-i
+invariant-loop-i l = i ≤ length l.text
+
+abbrev pub decreases-loop-i : goal.decreases-loop-i
+decreases-loop-i l = length l.text - i

@@ -1,0 +1,32 @@
+-- `pairing::step` meets its contract. Assumes nothing.
+use mathlib.Core.Path.{◌∙◌, ap, sym}
+use native.Mathlib.Omega.{arith}
+use borrow.Author.Tests.{not-true, not-false}
+use Rattle.protocol.specs.declared.Stepped.{Stepped}
+use Rattle.protocol.proofs.StepLaws.{refused_short, refused_code}
+use Rattle.handlers.specs.declared.outcome.Finished.{Finished}
+use Rattle.pairing.specs.Report.{step_of, reported}
+use Rattle.pairing.proofs.Stepping.{reported_step}
+use borrow.Author.Rules.{rules}
+use Rattle.pairing.proofs.step.Goals as goal
+
+pub returns-then-list-lt-LONGEST : goal.returns-then-list-lt-LONGEST
+returns-then-list-lt-LONGEST c =
+    let a = c.args in
+    ap (λ (r : Stepped). step_of r a.list.now) c.refused.ensures
+    ∙ sym (refused_short a.role a.machine a.input a.payload.now a.answers.now a.list.now (omega arith))
+
+pub returns-then-not-is_known : goal.returns-then-not-is_known
+returns-then-not-is_known c =
+    let a = c.args in
+    ap (λ (r : Stepped). step_of r a.list.now) c.refused-then-not-is_known.ensures
+    ∙ sym (refused_code a.role a.machine a.input a.payload.now a.answers.now a.list.now (omega arith)
+    (sym c.is_Known.ensures ∙ not-true _ c.if-not-is_known.true))
+
+pub returns : goal.returns
+returns c =
+    let a = c.args in
+    c.report.ensures
+    ∙ ap (λ (f : Finished). reported a.machine a.list.now f) c.handle_input-finished.ensures
+    ∙ reported_step a.role a.machine a.input a.payload.now a.answers.now a.list.now (omega arith)
+    (sym c.is_Known.ensures ∙ not-false _ c.if-not-is_known.false)

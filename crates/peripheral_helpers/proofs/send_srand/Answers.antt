@@ -1,0 +1,11 @@
+-- `peripheral_helpers::send_srand` meets its contract. Assumes nothing.
+use Rattle.ops.proofs.Laws.{and_halt}
+use Rattle.handlers.proofs.Outcoming.{outcome_halted}
+use borrow.Author.Rules.{rules}
+use Rattle.peripheral_helpers.proofs.send_srand.Goals as goal
+
+pub returns-in_default : goal.returns-in_default
+returns-in_default c = rw (c.not.ensures, c.halt.ensures, ← c.make_pairing_random.ensures, ← c.try_send_packet-sent.ensures, c.in_default.is, and_halt, outcome_halted)
+
+pub returns : goal.returns
+returns c = rw (← c.make_pairing_random.ensures, ← c.try_send_packet-sent.ensures, c.in-Yes.is, ← c.s1-stk.ensures) c.enable_encryption.ensures

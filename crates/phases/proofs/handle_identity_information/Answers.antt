@@ -1,0 +1,13 @@
+-- `phases::handle_identity_information` meets its contract. Assumes nothing.
+use Rattle.protocol.specs.Handlers.{handle_identity_information}
+use Rattle.handlers.proofs.Reading.{word_held}
+use borrow.Author.Rules.{rules}
+use Rattle.phases.proofs.handle_identity_information.Goals as goal
+
+pub returns-in_default : goal.returns-in_default
+unfolding handle_identity_information
+returns-in_default c = λ s. rw (c.failed.ensures, word_held _ c.read_payload_word.ensures, c.in_default.is)
+
+pub returns : goal.returns
+unfolding handle_identity_information
+returns c = λ s. rw (c.next.ensures, word_held _ c.read_payload_word.ensures, c.in-Ok.is, ← c.with_irk-changed.ensures)
