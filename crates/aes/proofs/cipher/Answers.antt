@@ -10,17 +10,8 @@ use Rattle.aes.specs.Columns.{octets, next_key}
 use Rattle.aes.specs.declared.Block.{Block}
 use Rattle.aes.proofs.Columns.{octets_length}
 use Rattle.aes.proofs.Schedule.{first_round_key, next_round_key}
+use Rattle.aes.proofs.cipher.Invariants.{schedule, Ran}
 use Rattle.aes.proofs.cipher.Goals as goal
-
-abbrev schedule : Block → List ℕ
-schedule key = key_expansion (octets key)
-
--- after i full rounds; s₀ is the state before the first
-record Ran (key s₀ k s : Block) (r i : ℕ) : Type 0 where
-  bound : i ≤ 9
-  round_key_lem : octets k ≡ round_key i (schedule key)
-  state : octets s ≡ rounds i (schedule key) (octets s₀)
-  constant : r ≡ power i
 
 -- one round more
 ran_more : {key s₀ k s next state : Block} {r r₁ i : ℕ} → Ran key s₀ k s r i → i < 9 → octets next ≡ next_key r (octets k)

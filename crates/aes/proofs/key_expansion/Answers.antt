@@ -15,6 +15,7 @@ use Rattle.aes.specs.Columns.{octets, next_key}
 use Rattle.aes.specs.declared.Block.{Block}
 use Rattle.aes.proofs.Columns.{octets_length}
 use Rattle.aes.proofs.Schedule.{first_round_key, next_round_key, length_expand, expand_next}
+use Rattle.aes.proofs.key_expansion.Invariants.{Expanded}
 use Rattle.aes.proofs.key_expansion.Goals as goal
 
 -- the key itself, then zeros
@@ -34,19 +35,12 @@ round_written n k q w b h e s f =
 filled : (n : ℕ) (k w : List ℕ) → n ≤ 10 → length k ≡ 16 → w ≡ expand (4 * n) k ++ replicate (160 - 16 * n) 0 → length w ≡ 176
 filled n k w b h e = rw e (simp (length-append, length-replicate) (omega (arith, length_expand n k h)))
 
-record Expanded (k₀ k : Block) (w : List ℕ) (r n : ℕ) : Type 0 where
-  bound : n ≤ 10
-  size : length w ≡ 176
-  words : w ≡ expand (4 * n) (octets k₀) ++ replicate (160 - 16 * n) 0
-  round_key_lem : octets k ≡ round_key n (key_expansion (octets k₀))
-  constant : r ≡ power n
-
 pub loop-round-init : goal.loop-round-init
 unfolding power
 loop-round-init c =
     let k = octets c.load-k.result in
     let n = octets_length c.load-k.result in
-    let words : c.write.new.0 ≡ expand 0 k ++ replicate 160 0 = c.write.ensures.slice ∙ rw (← c.load-k.ensures) (key_written k n) in
+    let words : c.write.new.dst ≡ expand 0 k ++ replicate 160 0 = c.write.ensures.slice ∙ rw (← c.load-k.ensures) (key_written k n) in
     record { bound = omega arith; size = filled 0 k _ (omega arith) n words; words = words; round_key_lem = sym (first_round_key k n); constant = refl }
 
 -- one round key more

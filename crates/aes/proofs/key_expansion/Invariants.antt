@@ -17,6 +17,13 @@ use Rattle.aes.proofs.Columns.{octets_length}
 use Rattle.aes.proofs.Schedule.{first_round_key, next_round_key, length_expand, expand_next}
 use Rattle.aes.proofs.key_expansion.Given as goal
 
+pub record Expanded (k₀ k : Block) (w : List ℕ) (r n : ℕ) : Type 0 where
+  pub bound : n ≤ 10
+  pub size : length w ≡ 176
+  pub words : w ≡ expand (4 * n) (octets k₀) ++ replicate (160 - 16 * n) 0
+  pub round_key_lem : octets k ≡ round_key n (key_expansion (octets k₀))
+  pub constant : r ≡ power n
+
 abbrev pub invariant-loop-round : goal.invariant-loop-round
 invariant-loop-round l = Expanded l.initial.k l.k l.w l.r l.round
 

@@ -57,7 +57,7 @@ returns c =
     let within = p.within in
     five s
     0 head (c.write.ensures.slice ∙ front)
-    (96 - a.head.at) (omega arith) (octets_text m.write_machine.new.1.0) c.put_field.ensures
+    (96 - a.head.at) (omega arith) (octets_text m.write_machine.new.record.0) c.put_field.ensures
     (a.list_at - 1) (omega arith) (32 ∷ []) c.write-2.ensures.slice
     a.list_at (omega arith) (octets_text list) c.put_field-2.ensures
     a.end (omega arith) (10 ∷ []) c.write-3.ensures.slice

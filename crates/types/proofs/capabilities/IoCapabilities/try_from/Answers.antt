@@ -1,4 +1,5 @@
 -- `types::IoCapabilities::try_from` meets its contract. Assumes nothing.
+use borrow.Author.Rules.{rules}
 use mathlib.Core.Path.{sym}
 use mathlib.Core.List.{map}
 use Rattle.octets.specs.Answer.{refused, accepted}
@@ -7,7 +8,7 @@ use Rattle.types.proofs.Tables.{past_table}
 use Rattle.types.proofs.capabilities.IoCapabilities.try_from.Goals as goal
 
 pub returns-in_default : goal.returns-in_default
-returns-in_default c = sym (past_table (refused 5) (map accepted ios) _ c.in_default.rest)
+returns-in_default c = sym (past_table (refused 5) (map accepted ios) _ (search rules))
 
 pub returns-in-0 : goal.returns-in-0
 returns-in-0 c = rw c.in-0.is

@@ -1,4 +1,5 @@
 -- `types::Command::try_from` meets its contract. Assumes nothing.
+use borrow.Author.Rules.{rules}
 use mathlib.Core.Path.{sym}
 use mathlib.Core.List.{map}
 use Rattle.octets.specs.Answer.{refused, accepted}
@@ -7,7 +8,7 @@ use Rattle.types.proofs.Tables.{past_table_from_one}
 use Rattle.types.proofs.types.Command.try_from.Goals as goal
 
 pub returns-in_default : goal.returns-in_default
-returns-in_default c = sym (past_table_from_one (refused 2) (map accepted commands) _ c.in_default.rest)
+returns-in_default c = sym (past_table_from_one (refused 2) (map accepted commands) _ (search rules))
 
 pub returns-in-1 : goal.returns-in-1
 returns-in-1 c = rw c.in-1.is

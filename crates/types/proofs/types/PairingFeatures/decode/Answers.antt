@@ -35,9 +35,9 @@ returns-then-size-lt-ENCRYPTION_KEY_SIZE_MIN c =
     let read_oob = sym oob.try_from-2.ensures ∙ ap oob_answer oob.in-Ok-try_from.is in
     sym (bad_size _ (omega arith) read_io read_oob
     (⊎_elim
-    (λ w. size_low size (omega (arith, w.taken)))
-    (λ w. size_high size (let h = w.1.taken in omega (arith, ltb-true)))
-    c.then-size-lt-ENCRYPTION_KEY_SIZE_MIN.branch))
+    (λ w. size_low size (omega (arith, w)))
+    (λ w. size_high size (omega (arith, w.1)))
+    c.then-size-lt-ENCRYPTION_KEY_SIZE_MIN.either))
 
 pub returns : goal.returns
 returns c =

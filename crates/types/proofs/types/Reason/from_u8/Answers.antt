@@ -7,4 +7,4 @@ use Rattle.types.proofs.Tables.{past_table_from_one}
 use Rattle.types.proofs.types.Reason.from_u8.Goals as goal
 
 pub returns-in_default : goal.returns-in_default
-returns-in_default c = sym (past_table_from_one UnspecifiedReason reasons _ c.in_default.rest)
+returns-in_default c = sym (past_table_from_one UnspecifiedReason reasons c.args.val (search rules))
