@@ -54,7 +54,7 @@ pub returns-in_default-field_count : goal.returns-in_default-field_count
 unfolding read_of line_with
 returns-in_default-field_count c =
     let m = c in
-    let text = m.args.payload-text in
+    let text = m.args.payload_text in
     rw (
       ← m.read_role.ensures,
       m.in-Ok.is,
@@ -73,7 +73,7 @@ unfolding read_of line_with
 returns-in_default-field_count-2 c =
     let m = c in
     let a = m.args in
-    let payload = sized (octets_field a.payload-text.now) (sym (ap number_in c.in-Value-field_count.is) ∙ c.field_count.ensures) in
+    let payload = sized (octets_field a.payload_text.now) (sym (ap number_in c.in-Value-field_count.is) ∙ c.field_count.ensures) in
     rw (
       ← m.read_role.ensures,
       m.in-Ok.is,
@@ -84,7 +84,7 @@ returns-in_default-field_count-2 c =
       ← c.read_input.ensures,
       c.in-Ok-read_input.is,
       payload.1,
-      not_sized (octets_field a.answers-text.now) (sym (ap number_in c.in_default-field_count-2.is) ∙ c.field_count-2.ensures),
+      not_sized (octets_field a.answers_text.now) (sym (ap number_in c.in_default-field_count-2.is) ∙ c.field_count-2.ensures),
     )
     c.no_line-in_default-field_count-2.ensures
 
@@ -94,8 +94,8 @@ returns-then-not-may_carry c =
     let d = c in
     let m = d in
     let a = m.args in
-    let payload = sized (octets_field a.payload-text.now) (sym (ap number_in d.in-Value-field_count.is) ∙ d.field_count.ensures) in
-    let answers = sized (octets_field a.answers-text.now) (sym (ap number_in d.in-Value-field_count-2.is) ∙ d.field_count-2.ensures) in
+    let payload = sized (octets_field a.payload_text.now) (sym (ap number_in d.in-Value-field_count.is) ∙ d.field_count.ensures) in
+    let answers = sized (octets_field a.answers_text.now) (sym (ap number_in d.in-Value-field_count-2.is) ∙ d.field_count-2.ensures) in
     rw (
       ← m.read_role.ensures,
       m.in-Ok.is,
@@ -119,8 +119,8 @@ returns c =
     let d = c in
     let m = d in
     let a = m.args in
-    let payload = sized (octets_field a.payload-text.now) (sym (ap number_in d.in-Value-field_count.is) ∙ d.field_count.ensures) in
-    let answers = sized (octets_field a.answers-text.now) (sym (ap number_in d.in-Value-field_count-2.is) ∙ d.field_count-2.ensures) in
+    let payload = sized (octets_field a.payload_text.now) (sym (ap number_in d.in-Value-field_count.is) ∙ d.field_count.ensures) in
+    let answers = sized (octets_field a.answers_text.now) (sym (ap number_in d.in-Value-field_count-2.is) ∙ d.field_count-2.ensures) in
     rw (
       ← m.read_role.ensures,
       m.in-Ok.is,

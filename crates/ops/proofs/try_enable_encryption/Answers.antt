@@ -9,7 +9,7 @@ use borrow.Author.Rules.{rules}
 use Rattle.ops.proofs.try_enable_encryption.Goals as goal
 
 pub behind-after-requires : goal.behind-after-requires
-behind-after-requires c = answer_within (let a = c.args in call.EnableEncryption a.ltk a.security-level a.encryption-key-len) _ _ (sym c.read_encryption-answer.ensures ∙ ap encryption_answer c.in-Encryption.is)
+behind-after-requires c = answer_within (let a = c.args in call.EnableEncryption a.ltk a.security_level a.encryption_key_len) _ _ (sym c.read_encryption-answer.ensures ∙ ap encryption_answer c.in-Encryption.is)
 
 pub returns-in_default : goal.returns-in_default
 unfolding answer_to

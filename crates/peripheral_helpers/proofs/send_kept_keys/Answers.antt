@@ -12,8 +12,8 @@ returns-in_default c = rw (c.stop.ensures, keys_sent, ← c.draw_keys-asked.ensu
 
 pub returns-in_default-answer2 : goal.returns-in_default-answer2
 unfolding data_of
-returns-in_default-answer2 c = rw (keys_sent, ← c.draw_keys-asked.ensures, c.in-Ok.is, ← c.send_encryption_packets-sent.ensures c.args.pairing-data, c.in_default-answer2.is, and_halt, data_halted)
+returns-in_default-answer2 c = rw (keys_sent, ← c.draw_keys-asked.ensures, c.in-Ok.is, ← c.send_encryption_packets-sent.ensures c.args.pairing_data, c.in_default-answer2.is, and_halt, data_halted)
 
 pub returns : goal.returns
 unfolding data_of
-returns c = rw (keys_sent, ← c.draw_keys-asked.ensures, c.in-Ok.is, ← c.send_encryption_packets-sent.ensures c.args.pairing-data, c.in-Yes.is, ← c.with_keys.ensures)
+returns c = rw (keys_sent, ← c.draw_keys-asked.ensures, c.in-Ok.is, ← c.send_encryption_packets-sent.ensures c.args.pairing_data, c.in-Yes.is, ← c.with_keys.ensures)

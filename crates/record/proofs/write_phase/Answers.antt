@@ -8,7 +8,7 @@ use Rattle.record.proofs.Sizes.{phase_length}
 use Rattle.record.proofs.Pieces.{three}
 use Rattle.record.proofs.write_phase.Goals as goal
 
-sizes : (c : tie.Start) → (length c.args.t3 ≡ 7) × (length c.args.t4 ≡ 7)
+sizes : (c : tie.Start) → (length c.args.preq ≡ 7) × (length c.args.pres ≡ 7)
 sizes c = (search rules, search rules)
 
 pub returns : goal.returns
@@ -23,6 +23,6 @@ returns c =
     let n = sizes start in
     three a.«record».now
     0 (phase_octets a.phase) (rw octets.phase_octets-octets.ensures at w1.write.ensures.slice)
-    4 (omega arith) a.t3 w2.write-2.ensures.slice
-    11 (omega arith) a.t4 w3.write-3.ensures.slice
+    4 (omega arith) a.preq w2.write-2.ensures.slice
+    11 (omega arith) a.pres w3.write-3.ensures.slice
     (omega arith)

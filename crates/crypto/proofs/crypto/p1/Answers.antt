@@ -12,8 +12,8 @@ use Rattle.crypto.proofs.crypto.p1.Goals as goal
 pub returns : goal.returns
 returns c =
     let a = c.args in
-    let h : length a.t1 ≡ 7 = search rules in
-    let g : length a.t2 ≡ 7 = search rules in
+    let h : length a.pres ≡ 7 = search rules in
+    let g : length a.preq ≡ 7 = search rules in
     c.from_le_bytes.ensures
-    ∙ sym (ap₂ (λ (pres preq : List ℕ). word_of (a.iat ∷ a.rat ∷ (preq ++ pres))) (whole 7 a.t1 h) (whole 7 a.t2 g))
-    ∙ sym (p1_reading a.t1 a.t2 a.rat a.iat)
+    ∙ sym (ap₂ (λ (pres preq : List ℕ). word_of (a.iat ∷ a.rat ∷ (preq ++ pres))) (whole 7 a.pres h) (whole 7 a.preq g))
+    ∙ sym (p1_reading a.pres a.preq a.rat a.iat)

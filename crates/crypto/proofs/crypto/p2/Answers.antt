@@ -12,8 +12,8 @@ use Rattle.crypto.proofs.crypto.p2.Goals as goal
 pub returns : goal.returns
 returns c =
     let a = c.args in
-    let h : length a.t1 ≡ 6 = search rules in
-    let g : length a.t2 ≡ 6 = search rules in
+    let h : length a.ia ≡ 6 = search rules in
+    let g : length a.ra ≡ 6 = search rules in
     c.from_le_bytes.ensures
-    ∙ sym (ap₂ (λ (ia ra : List ℕ). word_of (ra ++ (ia ++ (0 ∷ 0 ∷ 0 ∷ 0 ∷ [])))) (whole 6 a.t1 h) (whole 6 a.t2 g))
-    ∙ sym (p2_reading a.t1 a.t2)
+    ∙ sym (ap₂ (λ (ia ra : List ℕ). word_of (ra ++ (ia ++ (0 ∷ 0 ∷ 0 ∷ 0 ∷ [])))) (whole 6 a.ia h) (whole 6 a.ra g))
+    ∙ sym (p2_reading a.ia a.ra)
