@@ -2,7 +2,7 @@
 -- they refuse. (The answer's flags: Response. Where both type: Allowed. A refused step's counts, any list: StepLaws.)
 -- Assumes nothing.
 use Prim.Native.Nat.{ℕ, ◌≤◌, ◌<◌}
-use mathlib.Core.Path.{◌≡◌, refl, ap}
+use mathlib.Core.Path.{◌≡◌, refl, ap, ◌∙◌}
 use mathlib.Core.Bool.{Bool, true, false, cond}
 use mathlib.Core.List.{List}
 use mathlib.Core.Logic.{◌⊎◌, inl, inr}
@@ -39,7 +39,7 @@ use Rattle.machine.specs.declared.Role.{Role}
 use Rattle.machine.specs.declared.Role.TheVariants.{Central, Peripheral}
 use Rattle.protocol.specs.Program.{ret, ask}
 use Rattle.protocol.specs.Ops.{delivered, undelivered, delivery_of}
-use Rattle.protocol.specs.Handlers.{addr_type_flag, ◌>>=◌, ◌>>◌, give, on_option_bond, bonded_encryption, names_identity_key, word_in, enters, with_tk, with_bond, smaller, pass_key_tk, enter, store_confirm_bytes}
+use Rattle.protocol.specs.Handlers.{addr_type_flag, ◌>>=◌, ◌>>◌, give, on_option_bond, bonded_encryption, names_identity_key, word_in, enters, with_tk, with_bond, smaller, pass_key_tk, enter_bonded, enter_success, enter, store_confirm_bytes}
 use Rattle.protocol.specs.LegacyCentral as central
 use Rattle.protocol.specs.LegacyPeripheral as peripheral
 use Rattle.protocol.proofs.Awaited.{transition_of}
@@ -178,7 +178,7 @@ module _ (c : ConfirmPhaseData) (d : PairingData) (b : BondInformation) (h : d.b
       (λ x. ask (call.SendConnectionEvent (notice.PairingComplete b.security_level (option.Some b)))
       (λ y. ret (standing phase.Success c d)))
   unfolding enter want_bonding
-  bond_handed_on w = rw (h, w) refl
+  bond_handed_on w = ap (enter_success (standing phase.Success c d)) h ∙ ap (enter_bonded (standing phase.Success c d) b) w
 
   -- else 0x21 alone, with its level and no bond
   pub no_bond_handed_on :
@@ -187,11 +187,11 @@ module _ (c : ConfirmPhaseData) (d : PairingData) (b : BondInformation) (h : d.b
       ≡ ask (call.SendConnectionEvent (notice.PairingComplete b.security_level option.None))
       (λ x. ret (standing phase.Success c d))
   unfolding enter want_bonding
-  no_bond_handed_on w = rw (h, w) refl
+  no_bond_handed_on w = ap (enter_success (standing phase.Success c d)) h ∙ ap (enter_bonded (standing phase.Success c d) b) w
 
 -- without a bond the host gets no call
 pub no_bond_no_call :
     (c : ConfirmPhaseData) (d : PairingData) → d.bond_information ≡ option.None →
     enter (standing phase.Success c d) ≡ ret (standing phase.Success c d)
 unfolding enter
-no_bond_no_call c d h = rw h refl
+no_bond_no_call c d h = ap (enter_success (standing phase.Success c d)) h

@@ -13,7 +13,7 @@ use Rattle.answer.proofs.read_bonded_encryption.Goals as goal
 pub bounds-answers-b : goal.bounds-answers-b
 bounds-answers-b c =
     let found = c in
-    let h = body_within _ _ _ found.frame_at.ensures.1 found.in-Body.is in
+    let h = body_within found.args.answers.now 53 found.frame_at.result found.frame_at.ensures.1 found.in-Body.is in
     omega arith
 
 pub returns-then-verdict-ne0 : goal.returns-then-verdict-ne0
@@ -21,7 +21,7 @@ unfolding bonded_at
 returns-then-verdict-ne0 c =
     let found = c in
     rw (
-      body_found _ _ _ found.frame_at.ensures.0 found.in-Body.is,
+      body_found found.args.answers.now 53 found.frame_at.result found.frame_at.ensures.0 found.in-Body.is,
       first_octet 53 _ _ (lit< tt),
       ne_eqb _ _ c.if-verdict-ne0.true,
       ← c.from_verdict.ensures,
@@ -30,13 +30,13 @@ returns-then-verdict-ne0 c =
 pub overflow_add-b : goal.overflow_add-b
 overflow_add-b c =
     let found = c in
-    let h = body_within _ _ _ found.frame_at.ensures.1 found.in-Body.is in
+    let h = body_within found.args.answers.now 53 found.frame_at.result found.frame_at.ensures.1 found.in-Body.is in
     search rules
 
 pub bounds-answers-b-in-Body : goal.bounds-answers-b-in-Body
 bounds-answers-b-in-Body c =
     let found = c in
-    let h = body_within _ _ _ found.frame_at.ensures.1 found.in-Body.is in
+    let h = body_within found.args.answers.now 53 found.frame_at.result found.frame_at.ensures.1 found.in-Body.is in
     omega arith
 
 pub returns-in_default : goal.returns-in_default
@@ -44,7 +44,7 @@ unfolding bonded_at
 returns-in_default c =
     let found = c in
     rw (
-      body_found _ _ _ found.frame_at.ensures.0 found.in-Body.is,
+      body_found found.args.answers.now 53 found.frame_at.result found.frame_at.ensures.0 found.in-Body.is,
       first_octet 53 _ _ (lit< tt),
       eq-eqb _ _ c.if-verdict-ne0.false,
       element_of_part 1 53 _ _ (lit< tt),
@@ -55,10 +55,10 @@ returns-in_default c =
 pub returns-then-not-present : goal.returns-then-not-present
 unfolding bonded_at
 returns-then-not-present c =
-    let p : c.in-Ok.present ≡ false = not_back _ c.if-not-present.true in
+    let p : c.in-Ok.present ≡ false = c.if-not-present.true in
     let found = c in
     rw (
-      body_found _ _ _ found.frame_at.ensures.0 found.in-Body.is,
+      body_found found.args.answers.now 53 found.frame_at.result found.frame_at.ensures.0 found.in-Body.is,
       first_octet 53 _ _ (lit< tt),
       eq-eqb _ _ c.if-verdict-ne0.false,
       element_of_part 1 53 _ _ (lit< tt),
@@ -70,22 +70,22 @@ returns-then-not-present c =
 pub overflow_add-b-in-Body : goal.overflow_add-b-in-Body
 overflow_add-b-in-Body c =
     let found = c in
-    let h = body_within _ _ _ found.frame_at.ensures.1 found.in-Body.is in
+    let h = body_within found.args.answers.now 53 found.frame_at.result found.frame_at.ensures.1 found.in-Body.is in
     search rules
 
 pub read_bond-requires : goal.read_bond-requires
 read_bond-requires c =
     let found = c in
-    let h = body_within _ _ _ found.frame_at.ensures.1 found.in-Body.is in
+    let h = body_within found.args.answers.now 53 found.frame_at.result found.frame_at.ensures.1 found.in-Body.is in
     omega arith
 
 pub returns-in-Ok-read_bond : goal.returns-in-Ok-read_bond
 unfolding bonded_at
 returns-in-Ok-read_bond c =
-    let p : c.in-Ok.present ≡ true = not_back _ c.if-not-present.false in
+    let p : c.in-Ok.present ≡ true = c.if-not-present.false in
     let found = c in
     rw (
-      body_found _ _ _ found.frame_at.ensures.0 found.in-Body.is,
+      body_found found.args.answers.now 53 found.frame_at.result found.frame_at.ensures.0 found.in-Body.is,
       first_octet 53 _ _ (lit< tt),
       eq-eqb _ _ c.if-verdict-ne0.false,
       element_of_part 1 53 _ _ (lit< tt),
@@ -100,10 +100,10 @@ returns-in-Ok-read_bond c =
 pub returns-in-InvalidValue : goal.returns-in-InvalidValue
 unfolding bonded_at
 returns-in-InvalidValue c =
-    let p : c.in-Ok.present ≡ true = not_back _ c.if-not-present.false in
+    let p : c.in-Ok.present ≡ true = c.if-not-present.false in
     let found = c in
     rw (
-      body_found _ _ _ found.frame_at.ensures.0 found.in-Body.is,
+      body_found found.args.answers.now 53 found.frame_at.result found.frame_at.ensures.0 found.in-Body.is,
       first_octet 53 _ _ (lit< tt),
       eq-eqb _ _ c.if-verdict-ne0.false,
       element_of_part 1 53 _ _ (lit< tt),
@@ -119,4 +119,4 @@ pub returns-in-Stop : goal.returns-in-Stop
 unfolding bonded_at
 returns-in-Stop c =
     let found = c in
-    rw (body_stopped _ _ _ found.frame_at.ensures.0 found.in-Stop.is, on_stop)
+    rw (body_stopped found.args.answers.now 53 found.frame_at.result found.frame_at.ensures.0 found.in-Stop.is, on_stop)

@@ -11,7 +11,7 @@ use Rattle.answer.proofs.read_encryption.Goals as goal
 pub bounds-answers-b : goal.bounds-answers-b
 bounds-answers-b c =
     let found = c in
-    let h = body_within _ _ _ found.frame_at.ensures.1 found.in-Body.is in
+    let h = body_within found.args.answers.now 52 found.frame_at.result found.frame_at.ensures.1 found.in-Body.is in
     omega arith
 
 pub returns-then-verdict-ne0 : goal.returns-then-verdict-ne0
@@ -19,7 +19,7 @@ unfolding encryption_at
 returns-then-verdict-ne0 c =
     let found = c in
     rw (
-      body_found _ _ _ found.frame_at.ensures.0 found.in-Body.is,
+      body_found found.args.answers.now 52 found.frame_at.result found.frame_at.ensures.0 found.in-Body.is,
       first_octet 52 _ _ (lit< tt),
       ne_eqb _ _ c.if-verdict-ne0.true,
       ← c.from_verdict.ensures,
@@ -28,13 +28,13 @@ returns-then-verdict-ne0 c =
 pub overflow_add-b : goal.overflow_add-b
 overflow_add-b c =
     let found = c in
-    let h = body_within _ _ _ found.frame_at.ensures.1 found.in-Body.is in
+    let h = body_within found.args.answers.now 52 found.frame_at.result found.frame_at.ensures.1 found.in-Body.is in
     search rules
 
 pub read_bond-requires : goal.read_bond-requires
 read_bond-requires c =
     let found = c in
-    let h = body_within _ _ _ found.frame_at.ensures.1 found.in-Body.is in
+    let h = body_within found.args.answers.now 52 found.frame_at.result found.frame_at.ensures.1 found.in-Body.is in
     omega arith
 
 pub returns-in-Ok : goal.returns-in-Ok
@@ -42,7 +42,7 @@ unfolding encryption_at
 returns-in-Ok c =
     let found = c in
     rw (
-      body_found _ _ _ found.frame_at.ensures.0 found.in-Body.is,
+      body_found found.args.answers.now 52 found.frame_at.result found.frame_at.ensures.0 found.in-Body.is,
       first_octet 52 _ _ (lit< tt),
       eq-eqb _ _ c.if-verdict-ne0.false,
       within_part 51 1 52 _ _ (omega arith),
@@ -55,7 +55,7 @@ unfolding encryption_at
 returns-in-InvalidValue c =
     let found = c in
     rw (
-      body_found _ _ _ found.frame_at.ensures.0 found.in-Body.is,
+      body_found found.args.answers.now 52 found.frame_at.result found.frame_at.ensures.0 found.in-Body.is,
       first_octet 52 _ _ (lit< tt),
       eq-eqb _ _ c.if-verdict-ne0.false,
       within_part 51 1 52 _ _ (omega arith),
@@ -67,4 +67,4 @@ pub returns-in-Stop : goal.returns-in-Stop
 unfolding encryption_at
 returns-in-Stop c =
     let found = c in
-    rw (body_stopped _ _ _ found.frame_at.ensures.0 found.in-Stop.is, on_stop)
+    rw (body_stopped found.args.answers.now 52 found.frame_at.result found.frame_at.ensures.0 found.in-Stop.is, on_stop)

@@ -11,19 +11,19 @@ use Rattle.answer.proofs.read_identity_address.Goals as goal
 pub bounds-answers-b : goal.bounds-answers-b
 bounds-answers-b c =
     let found = c in
-    let h = body_within _ _ _ found.frame_at.ensures.1 found.in-Body.is in
+    let h = body_within found.args.answers.now 8 found.frame_at.result found.frame_at.ensures.1 found.in-Body.is in
     omega arith
 
 pub overflow_add-b : goal.overflow_add-b
 overflow_add-b c =
     let found = c in
-    let h = body_within _ _ _ found.frame_at.ensures.1 found.in-Body.is in
+    let h = body_within found.args.answers.now 8 found.frame_at.result found.frame_at.ensures.1 found.in-Body.is in
     search rules
 
 pub read_address-requires : goal.read_address-requires
 read_address-requires c =
     let found = c in
-    let h = body_within _ _ _ found.frame_at.ensures.1 found.in-Body.is in
+    let h = body_within found.args.answers.now 8 found.frame_at.result found.frame_at.ensures.1 found.in-Body.is in
     omega arith
 
 pub returns-then-verdict-eq0 : goal.returns-then-verdict-eq0
@@ -32,7 +32,7 @@ returns-then-verdict-eq0 c =
     rw (
       ← c.kind.ensures,
       let found = c in
-          body_found _ _ _ found.frame_at.ensures.0 found.in-Body.is,
+          body_found found.args.answers.now 8 found.frame_at.result found.frame_at.ensures.0 found.in-Body.is,
       first_octet 8 _ _ (lit< tt),
       eq-eqb _ _ c.if-verdict-eq0.true,
       within_part 7 1 8 _ _ (omega arith),
@@ -45,7 +45,7 @@ returns-else-verdict-eq0 c =
     rw (
       ← c.kind.ensures,
       let found = c in
-          body_found _ _ _ found.frame_at.ensures.0 found.in-Body.is,
+          body_found found.args.answers.now 8 found.frame_at.result found.frame_at.ensures.0 found.in-Body.is,
       first_octet 8 _ _ (lit< tt),
       ne_eqb _ _ c.if-verdict-eq0.false,
       ← c.from_verdict.ensures,
@@ -57,6 +57,6 @@ returns-in-Stop c =
     rw (
       ← c.kind.ensures,
       let found = c in
-          body_stopped _ _ _ found.frame_at.ensures.0 found.in-Stop.is,
+          body_stopped found.args.answers.now 8 found.frame_at.result found.frame_at.ensures.0 found.in-Stop.is,
       on_stop,
     )

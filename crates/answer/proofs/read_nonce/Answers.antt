@@ -8,7 +8,7 @@ use Rattle.answer.proofs.read_nonce.Goals as goal
 pub read_16-drawn-requires : goal.read_16-drawn-requires
 read_16-drawn-requires c =
     let found = c in
-    let h = body_within _ _ _ found.frame_at.ensures.1 found.in-Body.is in
+    let h = body_within found.args.answers.now 16 found.frame_at.result found.frame_at.ensures.1 found.in-Body.is in
     omega arith
 
 pub returns-in-Body : goal.returns-in-Body
@@ -17,7 +17,7 @@ returns-in-Body c =
     rw (
       ← c.kind.ensures,
       let found = c in
-          body_found _ _ _ found.frame_at.ensures.0 found.in-Body.is,
+          body_found found.args.answers.now 16 found.frame_at.result found.frame_at.ensures.0 found.in-Body.is,
       ← c.read_16-drawn.ensures,
       ← c.new.ensures,
     )
@@ -28,6 +28,6 @@ returns-in-Stop c =
     rw (
       ← c.kind.ensures,
       let found = c in
-          body_stopped _ _ _ found.frame_at.ensures.0 found.in-Stop.is,
+          body_stopped found.args.answers.now 16 found.frame_at.result found.frame_at.ensures.0 found.in-Stop.is,
       on_stop,
     )

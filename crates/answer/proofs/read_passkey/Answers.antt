@@ -9,7 +9,7 @@ use Rattle.answer.proofs.read_passkey.Goals as goal
 pub read_u32-drawn-requires : goal.read_u32-drawn-requires
 read_u32-drawn-requires c =
     let found = c in
-    let h = body_within _ _ _ found.frame_at.ensures.1 found.in-Body.is in
+    let h = body_within found.args.answers.now 4 found.frame_at.result found.frame_at.ensures.1 found.in-Body.is in
     omega arith
 
 pub returns-then-drawn-gt-PASSKEY_MAX : goal.returns-then-drawn-gt-PASSKEY_MAX
@@ -18,7 +18,7 @@ returns-then-drawn-gt-PASSKEY_MAX c =
     rw (
       ← c.kind.ensures,
       let found = c in
-          body_found _ _ _ found.frame_at.ensures.0 found.in-Body.is,
+          body_found found.args.answers.now 4 found.frame_at.result found.frame_at.ensures.0 found.in-Body.is,
       ← c.read_u32-drawn.ensures,
       lt-ltb _ _ c.if-drawn-gt-PASSKEY_MAX.true,
     )
@@ -29,7 +29,7 @@ returns-else-drawn-gt-PASSKEY_MAX c =
     rw (
       ← c.kind.ensures,
       let found = c in
-          body_found _ _ _ found.frame_at.ensures.0 found.in-Body.is,
+          body_found found.args.answers.now 4 found.frame_at.result found.frame_at.ensures.0 found.in-Body.is,
       ← c.read_u32-drawn.ensures,
       le-ltb _ _ c.if-drawn-gt-PASSKEY_MAX.false,
     )
@@ -40,6 +40,6 @@ returns-in-Stop c =
     rw (
       ← c.kind.ensures,
       let found = c in
-          body_stopped _ _ _ found.frame_at.ensures.0 found.in-Stop.is,
+          body_stopped found.args.answers.now 4 found.frame_at.result found.frame_at.ensures.0 found.in-Stop.is,
       on_stop,
     )

@@ -9,17 +9,17 @@ use Rattle.answer.proofs.read_verdict.Goals as goal
 pub bounds-answers-b : goal.bounds-answers-b
 bounds-answers-b c =
     let found = c in
-    let h = body_within _ _ _ found.frame_at.ensures.1 found.in-Body.is in
+    let h = body_within found.args.answers.now 1 found.frame_at.result found.frame_at.ensures.1 found.in-Body.is in
     omega arith
 
 pub returns-in-Body : goal.returns-in-Body
 unfolding verdict_at
 returns-in-Body c =
     let found = c in
-    rw (body_found _ _ _ found.frame_at.ensures.0 found.in-Body.is, first_octet 1 _ _ (lit< tt))
+    rw (body_found found.args.answers.now 1 found.frame_at.result found.frame_at.ensures.0 found.in-Body.is, first_octet 1 _ _ (lit< tt))
 
 pub returns-in-Stop : goal.returns-in-Stop
 unfolding verdict_at
 returns-in-Stop c =
     let found = c in
-    rw (body_stopped _ _ _ found.frame_at.ensures.0 found.in-Stop.is, on_stop)
+    rw (body_stopped found.args.answers.now 1 found.frame_at.result found.frame_at.ensures.0 found.in-Stop.is, on_stop)

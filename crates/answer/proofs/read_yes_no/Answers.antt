@@ -9,7 +9,7 @@ use Rattle.answer.proofs.read_yes_no.Goals as goal
 pub bounds-answers-b : goal.bounds-answers-b
 bounds-answers-b c =
     let found = c in
-    let h = body_within _ _ _ found.frame_at.ensures.1 found.in-Body.is in
+    let h = body_within found.args.answers.now 1 found.frame_at.result found.frame_at.ensures.1 found.in-Body.is in
     omega arith
 
 pub returns-in-Ok : goal.returns-in-Ok
@@ -18,7 +18,7 @@ returns-in-Ok c =
     rw (
       ← c.kind.ensures,
       let found = c in
-          body_found _ _ _ found.frame_at.ensures.0 found.in-Body.is,
+          body_found found.args.answers.now 1 found.frame_at.result found.frame_at.ensures.0 found.in-Body.is,
       first_octet 1 _ _ (lit< tt),
       ← c.read_flag.ensures,
       c.in-Ok.is,
@@ -30,7 +30,7 @@ returns-in-InvalidValue c =
     rw (
       ← c.kind.ensures,
       let found = c in
-          body_found _ _ _ found.frame_at.ensures.0 found.in-Body.is,
+          body_found found.args.answers.now 1 found.frame_at.result found.frame_at.ensures.0 found.in-Body.is,
       first_octet 1 _ _ (lit< tt),
       ← c.read_flag.ensures,
       c.in-InvalidValue.is,
@@ -42,6 +42,6 @@ returns-in-Stop c =
     rw (
       ← c.kind.ensures,
       let found = c in
-          body_stopped _ _ _ found.frame_at.ensures.0 found.in-Stop.is,
+          body_stopped found.args.answers.now 1 found.frame_at.result found.frame_at.ensures.0 found.in-Stop.is,
       on_stop,
     )

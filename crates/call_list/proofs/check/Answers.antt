@@ -8,6 +8,7 @@ use Rattle.host.specs.Calls.{body_size}
 use Rattle.call_list.specs.CallList.{checked_of}
 use Rattle.call_list.proofs.Listing.{Seen, seen_none, seen_unknown, seen_cut, seen_more, seen_all, last_here, not_last, same_call}
 use borrow.Author.Rules.{rules}
+use Rattle.call_list.proofs.check.Goals.{then-count-index, else-count-index}
 use Rattle.call_list.proofs.check.Goals as goal
 
 pub loop-at-init : goal.loop-at-init
@@ -37,10 +38,9 @@ loop-at-preserved c =
     let i = c.args.index in
     let n = w.number in (
       seen_more w (omega arith) c.if-count-index.kind c.if-count-index.body (sym c.body_length.ensures ∙ ap body_size c.in-Octets.is) (omega arith)
-          (⊎_elim
-          (λ t. same_call t.1 t.2 ∙ last_here w.done _ i (omega (arith, t.0.taken)))
-          (λ t. same_call t.1 t.2 ∙ w.here ∙ not_last w.done _ i (λ e. t.0.left (omega arith)))
-          c.if-count-index.branch),
+          (elim c.if-count-index.branch [
+            then-count-index t ↦ same_call t.kind-is t.body-is ∙ last_here w.done _ i (omega (arith, t.if-count-index.true))
+          | else-count-index t ↦ same_call t.kind-is t.body-is ∙ w.here ∙ not_last w.done _ i (λ e. t.if-count-index.false (omega arith)) ]),
       refl,
     )
 

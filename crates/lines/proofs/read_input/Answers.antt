@@ -63,7 +63,7 @@ returns-in-111 c =
 pub returns-in_default : goal.returns-in_default
 unfolding input_of
 returns-in_default c =
-    let other = c.in_default.rest in
+    let other = c.in_default.in_default-own.rest in
     sym
     (letter c.args.text.now (omega arith)
     ∙ rw (

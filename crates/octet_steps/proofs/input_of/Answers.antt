@@ -35,4 +35,4 @@ pub returns-in_default : goal.returns-in_default
 unfolding input_of
 returns-in_default c =
     let a = c.args in
-    rw (le-ltb _ _ c.if-input-lt256.false) (sym (past_table (refused no_input) (events_with a.payload.now) _ c.in_default.rest))
+    rw (le-ltb _ _ c.if-input-lt256.false) (sym (past_table (refused no_input) (events_with a.payload.now) _ c.in_default.in_default-own.rest))

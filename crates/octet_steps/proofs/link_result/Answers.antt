@@ -20,7 +20,7 @@ returns-in-1 c = rw (c.in-1.is, eq-eqb _ _ c.if-payload-eq1.true)
 pub returns-in_default : goal.returns-in_default
 returns-in_default c =
     let l = c.args.payload.now in
-    sym (past_table (refused bad_event) (with_data l 1 (LinkEncryptedResult false) ∷ with_data l 1 (LinkEncryptedResult true) ∷ []) _ c.in_default.rest)
+    sym (past_table (refused bad_event) (with_data l 1 (LinkEncryptedResult false) ∷ with_data l 1 (LinkEncryptedResult true) ∷ []) _ c.in_default.in_default-own.rest)
 
 pub returns : goal.returns
 returns c = sym (no_link_result c.args.payload.now (ne_eqb _ _ c.if-payload-eq1.false))

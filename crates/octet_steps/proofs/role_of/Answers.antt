@@ -17,4 +17,4 @@ returns-in-1 c = rw c.in-1.is
 
 pub returns-in_default : goal.returns-in_default
 unfolding role_of
-returns-in_default c = sym (past_table (refused no_role) (accepted Central ∷ accepted Peripheral ∷ []) _ c.in_default.rest)
+returns-in_default c = sym (past_table (refused no_role) (accepted Central ∷ accepted Peripheral ∷ []) _ c.in_default.in_default-own.rest)

@@ -1,9 +1,7 @@
 -- `octets::copy` meets its contract. Assumes nothing.
 use mathlib.Core.Path.{◌∙◌}
-use Prim.Native.Nat.{◌-◌}
 use native.Mathlib.Omega.{arith}
-use lib.ListN.{length}
-use Rattle.octets.proofs.Filled.{Filled, fill_none, fill_more, fill_all, elements, copied}
+use Rattle.octets.proofs.Filled.{fill_none, fill_more, fill_all, elements, copied}
 use Rattle.octets.proofs.copy.Goals as goal
 
 pub loop-i-init : goal.loop-i-init

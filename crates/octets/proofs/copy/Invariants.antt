@@ -1,9 +1,7 @@
 -- `octets::copy` meets its contract. Assumes nothing.
-use mathlib.Core.Path.{◌∙◌}
 use Prim.Native.Nat.{◌-◌}
-use native.Mathlib.Omega.{arith}
 use lib.ListN.{length}
-use Rattle.octets.proofs.Filled.{Filled, fill_none, fill_more, fill_all, elements, copied}
+use Rattle.octets.proofs.Filled.{Filled, elements}
 use Rattle.octets.proofs.copy.Given as goal
 
 abbrev pub invariant-loop-i : goal.invariant-loop-i

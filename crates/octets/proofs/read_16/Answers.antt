@@ -1,7 +1,6 @@
 -- `octets::read_16` meets its contract. Assumes nothing.
 use mathlib.Core.Path.{sym}
 use Rattle.octets.proofs.Lists.{reads_at}
-use native.Mathlib.Omega.{arith}
 use Rattle.octets.proofs.read_16.Goals as goal
 
 pub returns : goal.returns

@@ -2,8 +2,6 @@
 use mathlib.Core.Path.{sym, ap, ◌∙◌}
 use Rattle.octets.specs.Octets.{from_octets}
 use Rattle.octets.proofs.Lists.{reads_at}
-use native.Mathlib.Omega.{arith}
-use borrow.Author.Rules.{rules}
 use Rattle.octets.proofs.read_u16.Goals as goal
 
 pub returns : goal.returns

@@ -7,7 +7,6 @@ use lib.ListN.{take, drop}
 use lib.Seq.{take-take, drop-drop}
 use Rattle.octets.specs.Octets.{from_octets, word_of}
 use Rattle.octets.proofs.Lists.{part_part}
-use borrow.Author.Rules.{rules}
 use Rattle.octets.proofs.read_word.Goals as goal
 
 low_half : (l : List ℕ) → from_octets (take 8 l) ≡ (word_of (take 16 l)).low

@@ -4,7 +4,6 @@ use Prim.Native.Nat.{◌+◌, ◌≤◌}
 use native.Mathlib.Omega.{arith}
 use lib.ListN.{length}
 use Rattle.octets.proofs.Parts.{first_part, fits, fits_not, written, not_written}
-use borrow.Author.Rules.{rules}
 use Rattle.octets.proofs.write.Goals as goal
 
 pub returns-then-room-n : goal.returns-then-room-n

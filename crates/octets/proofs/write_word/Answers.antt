@@ -1,5 +1,4 @@
 -- `octets::write_word` meets its contract. Assumes nothing.
-use borrow.Author.Rules.{rules}
 use Rattle.octets.proofs.write_word.Goals as goal
 
 pub returns : goal.returns

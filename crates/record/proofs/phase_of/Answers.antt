@@ -58,4 +58,4 @@ pub returns-in_default : goal.returns-in_default
 unfolding phase_of
 returns-in_default c =
     let a = c.args in
-    sym (past_table (refused 21) (phases_with a.role a.o a.confirm a.received) _ c.in_default.rest)
+    sym (past_table (refused 21) (phases_with a.role a.o a.confirm a.received) _ c.in_default.in_default-own.rest)

@@ -29,4 +29,4 @@ pub returns-in-5 : goal.returns-in-5
 returns-in-5 c = rw c.in-5.is
 
 pub returns-in_default : goal.returns-in_default
-returns-in_default c = sym (past_table_from_one (refused 21) (errors_with c.args.detail) _ c.in_default.rest)
+returns-in_default c = sym (past_table_from_one (refused 21) (errors_with c.args.detail) _ c.in_default.in_default-own.rest)

@@ -21,4 +21,4 @@ returns-in-Ok c =
     rw (c.in-1.is, read)
 
 pub returns-in_default : goal.returns-in_default
-returns-in_default c = sym (past_table (refused 24) (bonds_of _) _ c.in_default.rest)
+returns-in_default c = sym (past_table (refused 24) (bonds_of _) _ c.in_default.in_default-own.rest)

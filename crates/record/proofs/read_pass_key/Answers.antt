@@ -12,4 +12,4 @@ pub returns-in-1 : goal.returns-in-1
 returns-in-1 c = rw c.in-1.is
 
 pub returns-in_default : goal.returns-in_default
-returns-in_default c = sym (past_table (refused 21) (pass_keys_with _) _ c.in_default.rest)
+returns-in_default c = sym (past_table (refused 21) (pass_keys_with _) _ c.in_default.in_default-own.rest)

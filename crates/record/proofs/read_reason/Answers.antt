@@ -8,7 +8,7 @@ use Rattle.types.proofs.Tables.{past_table}
 use Rattle.record.proofs.read_reason.Goals as goal
 
 pub returns-in_default : goal.returns-in_default
-returns-in_default c = sym (past_table (refused 21) (map accepted (Success ∷ reasons)) _ c.in_default.rest)
+returns-in_default c = sym (past_table (refused 21) (map accepted (Success ∷ reasons)) _ c.in_default.in_default-own.rest)
 
 pub returns-in-0 : goal.returns-in-0
 returns-in-0 c = rw c.in-0.is

@@ -1,6 +1,5 @@
 -- `octets::Word128::to_be_bytes` meets its contract. Assumes nothing.
 use Rattle.octets.specs.Octets.{octets_of, octets_be}
-use borrow.Author.Rules.{rules}
 use Rattle.octets.proofs.Word128.to_be_bytes.Goals as goal
 
 pub returns : goal.returns

@@ -1,6 +1,5 @@
 -- `octets::Word128::to_le_bytes` meets its contract. Assumes nothing.
 use Rattle.octets.specs.Octets.{octets_of}
-use borrow.Author.Rules.{rules}
 use Rattle.octets.proofs.Word128.to_le_bytes.Goals as goal
 
 pub returns : goal.returns

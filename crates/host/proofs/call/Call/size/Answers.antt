@@ -6,16 +6,17 @@ use mathlib.Core.Path.{◌≡◌, sym, ap, ◌∙◌}
 use mathlib.Core.Option.{some}
 use lib.ListN.{length}
 use borrow.Author.Rules.{rules}
+use Rattle.host.proofs.call.Call.size.Goals.{After-body_length}
 use Rattle.host.proofs.call.Call.size.Goals as goal
 
 -- what was looked up is the body's length
-looked : (c : tie.After-body-length) → body_size c.body-length.result ≡ some (length (body_of c.before.before.args.self))
-looked c = c.body-length.ensures ∙ ap body_length c.before.kind.ensures ∙ body_length_lem c.before.before.args.self
+looked : (c : After-body_length) → body_size c.body_length.result ≡ some (length (body_of c.args.self))
+looked c = c.body_length.ensures ∙ ap body_length c.kind.ensures ∙ body_length_lem c.args.self
 
 pub overflow_add-result : goal.overflow_add-result
 overflow_add-result c =
     let k = c in
-    let e = some_same (sym (ap body_size c.in-Octets.is) ∙ looked k) in
+    let e = some_same (sym (ap body_size c.in-Octets.is) ∙ looked (goal.at.overflow_add-result c).After-body_length) in
     let h = body_short k.args.self in
     omega arith
 
@@ -23,8 +24,8 @@ pub returns-in-Octets : goal.returns-in-Octets
 unfolding call_octets
 returns-in-Octets c =
     let k = c in
-    let e = some_same (sym (ap body_size c.in-Octets.is) ∙ looked k) in
+    let e = some_same (sym (ap body_size c.in-Octets.is) ∙ looked (goal.at.returns-in-Octets c).After-body_length) in
     omega arith
 
 pub returns-in-Unknown : goal.returns-in-Unknown
-returns-in-Unknown c = absurd (some_none (sym (ap body_size c.in-Unknown.is) ∙ looked c))
+returns-in-Unknown c = absurd (some_none (sym (ap body_size c.in-Unknown.is) ∙ looked (goal.at.returns-in-Unknown c).After-body_length))

@@ -8,14 +8,14 @@ use borrow.Author.Rules.{rules}
 use Rattle.host.proofs.call.Trace.push.Goals as goal
 
 pub slice_bounds-write-end : goal.slice_bounds-write-end
-slice_bounds-write-end c = sym (rw length-map at c.well_formed.0.1.1.0.1.0.1)
+slice_bounds-write-end c = sym (search rules)
 
 pub overflow_add-result : goal.overflow_add-result
 overflow_add-result c =
     let w = c in
     let a = w in
     let t = a.args.self in
-    let full : length t.octets ≡ longest = rw length-map at a.well_formed.0.1.1.0.1.0.1 in
+    let full : length t.octets ≡ longest = search rules in
     let room = fitting t.octets t.len (call_octets a.args.call) (sym w.write.ensures.answer ∙ c.if-write.true) in
     let size = c.size.ensures in
     omega arith
