@@ -396,7 +396,7 @@ module _ (S : System) where
         Sync r to from (λ g. Emits r o g X) Y → Sync r to (from ++ optional o) X Y
     emit r none to [] X Y (inl h) = inl h
     emit r o to (i ∷ from) X Y (inl h) = absurd h.1
-    emit r (some i) [] [] X Y (inl h) = inr (h.0, tt, h.3, rw (other_other r) (along_emit r (some i) [] h.0 X h.2))
+    emit r (some i) [] [] X Y (inl h) = inr (h.0, tt, h.3, subst (λ (p : Party). Emits p (some i) h.0 X) (sym (other_other r)) h.2)
     emit r (some i) (i₁ ∷ to) [] X Y (inl h) =
         absurd (not_both r i i₁ h.0 X (λ g. Along (other r) to g Y) h.2 h.3)
     emit r o to from X Y (inr h) =

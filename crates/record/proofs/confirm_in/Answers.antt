@@ -1,6 +1,7 @@
 -- `record::confirm_in` meets its contract. Assumes nothing.
 use mathlib.Core.List.{[], ◌∷◌}
 use mathlib.Core.Path.{◌≡◌, refl}
+use borrow.Enum.Refused.{opened}
 use types.Run.{OneOf, miss}
 use denote.Enum.Declared.{tag_of}
 use borrow.Author.Rules.{rules}
@@ -40,4 +41,4 @@ unfolding confirm_in
 returns-in-WaitingPairingRandom c = rw c.in-WaitingPairingRandom.is
 
 pub returns-in_default : goal.returns-in_default
-returns-in_default c = rest c.args.phase c.in_default.keys3
+returns-in_default c = rest c.args.phase (opened c.in_default.in_default-own.keys3)

@@ -7,13 +7,10 @@ use Rattle.record.proofs.Sizes.{record_length}
 use Rattle.octets.proofs.Parts.{over_all}
 use Rattle.record.proofs.is_record_of.Goals as goal
 
-sizes : (c : tie.Start) → (length c.args.machine.confirm_data.preq ≡ 7) × (length c.args.machine.confirm_data.pres ≡ 7)
-sizes c = (search rules, search rules)
-
 pub returns : goal.returns
 returns c =
     let w = c in
     let m = w.args.machine in
-    let n = sizes w in
+    let n : (length m.confirm_data.preq ≡ 7) × (length m.confirm_data.pres ≡ 7) = (search rules, search rules) in
     let own = w.write_machine.ensures.slice ∙ over_all (replicate 161 0) (machine_octets m) (sym (record_length m n.0 n.1)) in
     rw (← own) c.same.ensures

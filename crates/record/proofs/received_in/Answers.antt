@@ -1,6 +1,7 @@
 -- `record::received_in` meets its contract. Assumes nothing.
 use mathlib.Core.List.{[], ◌∷◌}
 use mathlib.Core.Path.{◌≡◌, refl}
+use borrow.Enum.Refused.{opened}
 use types.Run.{OneOf, miss}
 use denote.Enum.Declared.{tag_of}
 use borrow.Author.Rules.{rules}
@@ -28,7 +29,7 @@ rest phase.Success h = refl
 rest (phase.Error e) h = refl
 
 pub returns-in_default : goal.returns-in_default
-returns-in_default c = rest c.args.phase c.in_default.keys2
+returns-in_default c = rest c.args.phase (opened c.in_default.in_default-own.keys2)
 
 pub returns : goal.returns
 unfolding received_in

@@ -9,10 +9,6 @@ use borrow.Author.Count.{below_none, below_more}
 use Rattle.record.proofs.Compared.{same_refl, same_false}
 use Rattle.record.proofs.same.Goals as goal
 
--- the first i octets are the same
-abbrev invariant-loop : tie.invariant-loop
-invariant-loop a b n i₀ i = (i ≤ length a) × ((k : ℕ) → k < i → get_or a k 0 ≡ get_or b k 0)
-
 pub returns-then-n-b : goal.returns-then-n-b
 returns-then-n-b c =
     let a = c.args in

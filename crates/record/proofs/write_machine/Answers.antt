@@ -12,14 +12,11 @@ use Rattle.record.proofs.Sizes.{head_length, words_length, sides_length, tail_le
 use Rattle.record.proofs.Pieces.{four}
 use Rattle.record.proofs.write_machine.Goals as goal
 
-sizes : (c : tie.Start) → (length c.args.machine.confirm_data.preq ≡ 7) × (length c.args.machine.confirm_data.pres ≡ 7)
-sizes c = (search rules, search rules)
-
 pub returns-then-record-lt161 : goal.returns-then-record-lt161
 returns-then-record-lt161 c =
     let a = c.args in
     let m = a.machine in
-    let n = sizes c in
+    let n : (length m.confirm_data.preq ≡ 7) × (length m.confirm_data.pres ≡ 7) = (search rules, search rules) in
     let h = record_length m n.0 n.1 in
     record {
       answer = sym (fits_not a.«record».now 0 (machine_octets m) (omega arith));
@@ -36,7 +33,7 @@ returns c =
     let s = start.args.«record».now in
     let m = start.args.machine in
     let d = m.pairing_data in
-    let n = sizes start in
+    let n : (length m.confirm_data.preq ≡ 7) × (length m.confirm_data.pres ≡ 7) = (search rules, search rules) in
     let room : record_size ≤ length s = head.if-record-lt161.false in
     let all = record_length m n.0 n.1 in
     let n1 = head_length m n.0 n.1 in

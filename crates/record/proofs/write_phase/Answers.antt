@@ -8,9 +8,6 @@ use Rattle.record.proofs.Sizes.{phase_length}
 use Rattle.record.proofs.Pieces.{three}
 use Rattle.record.proofs.write_phase.Goals as goal
 
-sizes : (c : tie.Start) → (length c.args.preq ≡ 7) × (length c.args.pres ≡ 7)
-sizes c = (search rules, search rules)
-
 pub returns : goal.returns
 returns c =
     let w3 = c in
@@ -20,7 +17,7 @@ returns c =
     let start = octets in
     let a = start.args in
     let n1 = phase_length a.phase in
-    let n = sizes start in
+    let n : (length a.preq ≡ 7) × (length a.pres ≡ 7) = (search rules, search rules) in
     three a.«record».now
     0 (phase_octets a.phase) (rw octets.phase_octets-octets.ensures at w1.write.ensures.slice)
     4 (omega arith) a.preq w2.write-2.ensures.slice
