@@ -7,13 +7,6 @@ use Rattle.lines.proofs.Digits.{digit_below}
 use borrow.Author.Rules.{rules}
 use Rattle.lines.proofs.octet.Goals as goal
 
--- both digits were read
-below : (c : tie.After-known-told2) → (c.before.before.before.before.before.h.given.0.0 < 16) × (c.before.l.given.0.0 < 16)
-below c = (
-  digit_below _ _ (sym (ap digit_in c.before.before.before.before.before.h.given.1) ∙ c.before.before.before.before.before.before.before.digit_value.ensures),
-  digit_below _ _ (sym (ap digit_in c.before.l.given.1) ∙ c.before.before.before.digit-value2.ensures),
-)
-
 pub returns-in_default : goal.returns-in_default
 unfolding octet_of
 returns-in_default c = rw (← c.digit_value.ensures, c.in_default.is)
@@ -23,10 +16,15 @@ unfolding octet_of
 returns-in_default-digit_value c = rw (← c.digit_value.ensures, c.in-Value.is, ← c.digit_value-2.ensures, c.in_default-digit_value.is)
 
 pub overflow_mul-result : goal.overflow_mul-result
-overflow_mul-result c = let h = below c in omega arith
+overflow_mul-result c =
+    let high : c.in-Value.h < 16 = digit_below _ _ (sym (ap digit_in c.in-Value.is) ∙ c.digit_value.ensures) in
+    omega arith
 
 pub overflow_add-result : goal.overflow_add-result
-overflow_add-result c = let h = below c in omega arith
+overflow_add-result c =
+    let high : c.in-Value.h < 16 = digit_below _ _ (sym (ap digit_in c.in-Value.is) ∙ c.digit_value.ensures) in
+    let low : c.in-Value-digit_value.l < 16 = digit_below _ _ (sym (ap digit_in c.in-Value-digit_value.is) ∙ c.digit_value-2.ensures) in
+    omega arith
 
 pub returns : goal.returns
 unfolding octet_of

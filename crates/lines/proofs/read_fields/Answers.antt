@@ -109,7 +109,7 @@ returns-then-not-may_carry c =
       answers.1,
       payload.2,
       ← c.may_carry.ensures,
-      not-true c.may_carry.result c.if-not-may_carry.true,
+      c.if-not-may_carry.true,
     )
     c.no_line-then-not-may_carry.ensures
 
@@ -134,7 +134,7 @@ returns c =
       answers.1,
       payload.2,
       ← c.may_carry.ensures,
-      not-false c.may_carry.result c.if-not-may_carry.false,
+      c.if-not-may_carry.false,
       payload.2,
       answers.2,
     )

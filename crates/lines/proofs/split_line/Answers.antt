@@ -7,23 +7,6 @@ use Rattle.lines.proofs.Fields.{next_field, last_field, stops_within, count_next
 use borrow.Author.Rules.{rules}
 use Rattle.lines.proofs.split_line.Goals as goal
 
--- each of the first five fields ends before the line does
-
-within-1 : (c : tie.Else2) → c.before.next-space.result < length c.before.before.before.before.args.line.now
-within-1 c = stops_within c.before.before.before.before.args.line.now 0 c.before.next-space.result c.before.next-space.ensures zero-le c.if2.false
-
-within-2 : (c : tie.Else3) → c.before.next-space2.result < length c.before.before.before.before.before.before.args.line.now
-within-2 c = stops_within c.before.before.before.before.before.before.args.line.now (c.before.before.before.next-space.result + 1) c.before.next-space2.result c.before.next-space2.ensures (let h = within-1 c.before.before in omega arith) c.if3.false
-
-within-3 : (c : tie.Else4) → c.before.next-space3.result < length c.before.before.before.before.before.before.before.before.args.line.now
-within-3 c = stops_within c.before.before.before.before.before.before.before.before.args.line.now (c.before.before.before.next-space2.result + 1) c.before.next-space3.result c.before.next-space3.ensures (let h = within-2 c.before.before in omega arith) c.if4.false
-
-within-4 : (c : tie.Else5) → c.before.next-space4.result < length c.before.before.before.before.before.before.before.before.before.before.args.line.now
-within-4 c = stops_within c.before.before.before.before.before.before.before.before.before.before.args.line.now (c.before.before.before.next-space3.result + 1) c.before.next-space4.result c.before.next-space4.ensures (let h = within-3 c.before.before in omega arith) c.if5.false
-
-within-5 : (c : tie.Else6) → c.before.next-space5.result < length c.before.before.before.before.before.before.before.before.before.before.before.before.args.line.now
-within-5 c = stops_within c.before.before.before.before.before.before.before.before.before.before.before.before.args.line.now (c.before.before.before.next-space4.result + 1) c.before.next-space5.result c.before.next-space5.ensures (let h = within-4 c.before.before in omega arith) c.if6.false
-
 pub returns-then-end-gt20000 : goal.returns-then-end-gt20000
 returns-then-end-gt20000 c = too_long c.args.line.now c.if-end-gt20000.true
 
@@ -34,78 +17,148 @@ returns-then-role-end c =
     not_six l (λ e. omega arith)
 
 pub overflow_add-role : goal.overflow_add-role
-overflow_add-role c = let h = within-1 c in omega arith
+overflow_add-role c =
+    -- each of these fields ends before the line does
+    let in1 : c.next_space-role.result < length c.args.line.now = stops_within c.args.line.now 0 c.next_space-role.result c.next_space-role.ensures zero-le c.if-role-end.false in
+    omega arith
 
 pub next_space-room-requires : goal.next_space-room-requires
-next_space-room-requires c = let h = within-1 c in omega arith
+next_space-room-requires c =
+    -- each of these fields ends before the line does
+    let in1 : c.next_space-role.result < length c.args.line.now = stops_within c.args.line.now 0 c.next_space-role.result c.next_space-role.ensures zero-le c.if-role-end.false in
+    omega arith
 
 pub returns-then-room-end : goal.returns-then-room-end
 returns-then-room-end c =
+    -- each of these fields ends before the line does
+    let in1 : c.next_space-role.result < length c.args.line.now = stops_within c.args.line.now 0 c.next_space-role.result c.next_space-role.ensures zero-le c.if-role-end.false in
     let l = c.args.line.now in
-    let n1 = count_next l 0 c.next_space-role.result c.next_space-role.ensures (within-1 c) in
-    let n2 = count_last l (c.next_space-role.result + 1) c.next_space-room.result c.next_space-room.ensures (let h = within-1 c in omega arith) c.if-room-end.true in
+    let n1 = count_next l 0 c.next_space-role.result c.next_space-role.ensures in1 in
+    let n2 = count_last l (c.next_space-role.result + 1) c.next_space-room.result c.next_space-room.ensures (omega arith) c.if-room-end.true in
     not_six l (λ e. omega arith)
 
 pub overflow_add-room : goal.overflow_add-room
-overflow_add-room c = let h = within-2 c in omega arith
+overflow_add-room c =
+    -- each of these fields ends before the line does
+    let in1 : c.next_space-role.result < length c.args.line.now = stops_within c.args.line.now 0 c.next_space-role.result c.next_space-role.ensures zero-le c.if-role-end.false in
+    let in2 : c.next_space-room.result < length c.args.line.now = stops_within c.args.line.now (c.next_space-role.result + 1) c.next_space-room.result c.next_space-room.ensures (omega arith) c.if-room-end.false in
+    omega arith
 
 pub next_space-machine-requires : goal.next_space-machine-requires
-next_space-machine-requires c = let h = within-2 c in omega arith
+next_space-machine-requires c =
+    -- each of these fields ends before the line does
+    let in1 : c.next_space-role.result < length c.args.line.now = stops_within c.args.line.now 0 c.next_space-role.result c.next_space-role.ensures zero-le c.if-role-end.false in
+    let in2 : c.next_space-room.result < length c.args.line.now = stops_within c.args.line.now (c.next_space-role.result + 1) c.next_space-room.result c.next_space-room.ensures (omega arith) c.if-room-end.false in
+    omega arith
 
 pub returns-then-machine-end : goal.returns-then-machine-end
 returns-then-machine-end c =
+    -- each of these fields ends before the line does
+    let in1 : c.next_space-role.result < length c.args.line.now = stops_within c.args.line.now 0 c.next_space-role.result c.next_space-role.ensures zero-le c.if-role-end.false in
+    let in2 : c.next_space-room.result < length c.args.line.now = stops_within c.args.line.now (c.next_space-role.result + 1) c.next_space-room.result c.next_space-room.ensures (omega arith) c.if-room-end.false in
     let l = c.args.line.now in
-    let n1 = count_next l 0 c.next_space-role.result c.next_space-role.ensures (within-1 c) in
-    let n2 = count_next l (c.next_space-role.result + 1) c.next_space-room.result c.next_space-room.ensures (within-2 c) in
-    let n3 = count_last l (c.next_space-room.result + 1) c.next_space-machine.result c.next_space-machine.ensures (let h = within-2 c in omega arith) c.if-machine-end.true in
+    let n1 = count_next l 0 c.next_space-role.result c.next_space-role.ensures in1 in
+    let n2 = count_next l (c.next_space-role.result + 1) c.next_space-room.result c.next_space-room.ensures in2 in
+    let n3 = count_last l (c.next_space-room.result + 1) c.next_space-machine.result c.next_space-machine.ensures (omega arith) c.if-machine-end.true in
     not_six l (λ e. omega arith)
 
 pub overflow_add-machine : goal.overflow_add-machine
-overflow_add-machine c = let h = within-3 c in omega arith
+overflow_add-machine c =
+    -- each of these fields ends before the line does
+    let in1 : c.next_space-role.result < length c.args.line.now = stops_within c.args.line.now 0 c.next_space-role.result c.next_space-role.ensures zero-le c.if-role-end.false in
+    let in2 : c.next_space-room.result < length c.args.line.now = stops_within c.args.line.now (c.next_space-role.result + 1) c.next_space-room.result c.next_space-room.ensures (omega arith) c.if-room-end.false in
+    let in3 : c.next_space-machine.result < length c.args.line.now = stops_within c.args.line.now (c.next_space-room.result + 1) c.next_space-machine.result c.next_space-machine.ensures (omega arith) c.if-machine-end.false in
+    omega arith
 
 pub next_space-input-requires : goal.next_space-input-requires
-next_space-input-requires c = let h = within-3 c in omega arith
+next_space-input-requires c =
+    -- each of these fields ends before the line does
+    let in1 : c.next_space-role.result < length c.args.line.now = stops_within c.args.line.now 0 c.next_space-role.result c.next_space-role.ensures zero-le c.if-role-end.false in
+    let in2 : c.next_space-room.result < length c.args.line.now = stops_within c.args.line.now (c.next_space-role.result + 1) c.next_space-room.result c.next_space-room.ensures (omega arith) c.if-room-end.false in
+    let in3 : c.next_space-machine.result < length c.args.line.now = stops_within c.args.line.now (c.next_space-room.result + 1) c.next_space-machine.result c.next_space-machine.ensures (omega arith) c.if-machine-end.false in
+    omega arith
 
 pub returns-then-input-end : goal.returns-then-input-end
 returns-then-input-end c =
+    -- each of these fields ends before the line does
+    let in1 : c.next_space-role.result < length c.args.line.now = stops_within c.args.line.now 0 c.next_space-role.result c.next_space-role.ensures zero-le c.if-role-end.false in
+    let in2 : c.next_space-room.result < length c.args.line.now = stops_within c.args.line.now (c.next_space-role.result + 1) c.next_space-room.result c.next_space-room.ensures (omega arith) c.if-room-end.false in
+    let in3 : c.next_space-machine.result < length c.args.line.now = stops_within c.args.line.now (c.next_space-room.result + 1) c.next_space-machine.result c.next_space-machine.ensures (omega arith) c.if-machine-end.false in
     let l = c.args.line.now in
-    let n1 = count_next l 0 c.next_space-role.result c.next_space-role.ensures (within-1 c) in
-    let n2 = count_next l (c.next_space-role.result + 1) c.next_space-room.result c.next_space-room.ensures (within-2 c) in
-    let n3 = count_next l (c.next_space-room.result + 1) c.next_space-machine.result c.next_space-machine.ensures (within-3 c) in
-    let n4 = count_last l (c.next_space-machine.result + 1) c.next_space-input.result c.next_space-input.ensures (let h = within-3 c in omega arith) c.if-input-end.true in
+    let n1 = count_next l 0 c.next_space-role.result c.next_space-role.ensures in1 in
+    let n2 = count_next l (c.next_space-role.result + 1) c.next_space-room.result c.next_space-room.ensures in2 in
+    let n3 = count_next l (c.next_space-room.result + 1) c.next_space-machine.result c.next_space-machine.ensures in3 in
+    let n4 = count_last l (c.next_space-machine.result + 1) c.next_space-input.result c.next_space-input.ensures (omega arith) c.if-input-end.true in
     not_six l (λ e. omega arith)
 
 pub overflow_add-input : goal.overflow_add-input
-overflow_add-input c = let h = within-4 c in omega arith
+overflow_add-input c =
+    -- each of these fields ends before the line does
+    let in1 : c.next_space-role.result < length c.args.line.now = stops_within c.args.line.now 0 c.next_space-role.result c.next_space-role.ensures zero-le c.if-role-end.false in
+    let in2 : c.next_space-room.result < length c.args.line.now = stops_within c.args.line.now (c.next_space-role.result + 1) c.next_space-room.result c.next_space-room.ensures (omega arith) c.if-room-end.false in
+    let in3 : c.next_space-machine.result < length c.args.line.now = stops_within c.args.line.now (c.next_space-room.result + 1) c.next_space-machine.result c.next_space-machine.ensures (omega arith) c.if-machine-end.false in
+    let in4 : c.next_space-input.result < length c.args.line.now = stops_within c.args.line.now (c.next_space-machine.result + 1) c.next_space-input.result c.next_space-input.ensures (omega arith) c.if-input-end.false in
+    omega arith
 
 pub next_space-payload-requires : goal.next_space-payload-requires
-next_space-payload-requires c = let h = within-4 c in omega arith
+next_space-payload-requires c =
+    -- each of these fields ends before the line does
+    let in1 : c.next_space-role.result < length c.args.line.now = stops_within c.args.line.now 0 c.next_space-role.result c.next_space-role.ensures zero-le c.if-role-end.false in
+    let in2 : c.next_space-room.result < length c.args.line.now = stops_within c.args.line.now (c.next_space-role.result + 1) c.next_space-room.result c.next_space-room.ensures (omega arith) c.if-room-end.false in
+    let in3 : c.next_space-machine.result < length c.args.line.now = stops_within c.args.line.now (c.next_space-room.result + 1) c.next_space-machine.result c.next_space-machine.ensures (omega arith) c.if-machine-end.false in
+    let in4 : c.next_space-input.result < length c.args.line.now = stops_within c.args.line.now (c.next_space-machine.result + 1) c.next_space-input.result c.next_space-input.ensures (omega arith) c.if-input-end.false in
+    omega arith
 
 pub returns-then-payload-end : goal.returns-then-payload-end
 returns-then-payload-end c =
+    -- each of these fields ends before the line does
+    let in1 : c.next_space-role.result < length c.args.line.now = stops_within c.args.line.now 0 c.next_space-role.result c.next_space-role.ensures zero-le c.if-role-end.false in
+    let in2 : c.next_space-room.result < length c.args.line.now = stops_within c.args.line.now (c.next_space-role.result + 1) c.next_space-room.result c.next_space-room.ensures (omega arith) c.if-room-end.false in
+    let in3 : c.next_space-machine.result < length c.args.line.now = stops_within c.args.line.now (c.next_space-room.result + 1) c.next_space-machine.result c.next_space-machine.ensures (omega arith) c.if-machine-end.false in
+    let in4 : c.next_space-input.result < length c.args.line.now = stops_within c.args.line.now (c.next_space-machine.result + 1) c.next_space-input.result c.next_space-input.ensures (omega arith) c.if-input-end.false in
     let l = c.args.line.now in
-    let n1 = count_next l 0 c.next_space-role.result c.next_space-role.ensures (within-1 c) in
-    let n2 = count_next l (c.next_space-role.result + 1) c.next_space-room.result c.next_space-room.ensures (within-2 c) in
-    let n3 = count_next l (c.next_space-room.result + 1) c.next_space-machine.result c.next_space-machine.ensures (within-3 c) in
-    let n4 = count_next l (c.next_space-machine.result + 1) c.next_space-input.result c.next_space-input.ensures (within-4 c) in
-    let n5 = count_last l (c.next_space-input.result + 1) c.next_space-payload.result c.next_space-payload.ensures (let h = within-4 c in omega arith) c.if-payload-end.true in
+    let n1 = count_next l 0 c.next_space-role.result c.next_space-role.ensures in1 in
+    let n2 = count_next l (c.next_space-role.result + 1) c.next_space-room.result c.next_space-room.ensures in2 in
+    let n3 = count_next l (c.next_space-room.result + 1) c.next_space-machine.result c.next_space-machine.ensures in3 in
+    let n4 = count_next l (c.next_space-machine.result + 1) c.next_space-input.result c.next_space-input.ensures in4 in
+    let n5 = count_last l (c.next_space-input.result + 1) c.next_space-payload.result c.next_space-payload.ensures (omega arith) c.if-payload-end.true in
     not_six l (λ e. omega arith)
 
 pub overflow_add-payload : goal.overflow_add-payload
-overflow_add-payload c = let h = within-5 c in omega arith
+overflow_add-payload c =
+    -- each of these fields ends before the line does
+    let in1 : c.next_space-role.result < length c.args.line.now = stops_within c.args.line.now 0 c.next_space-role.result c.next_space-role.ensures zero-le c.if-role-end.false in
+    let in2 : c.next_space-room.result < length c.args.line.now = stops_within c.args.line.now (c.next_space-role.result + 1) c.next_space-room.result c.next_space-room.ensures (omega arith) c.if-room-end.false in
+    let in3 : c.next_space-machine.result < length c.args.line.now = stops_within c.args.line.now (c.next_space-room.result + 1) c.next_space-machine.result c.next_space-machine.ensures (omega arith) c.if-machine-end.false in
+    let in4 : c.next_space-input.result < length c.args.line.now = stops_within c.args.line.now (c.next_space-machine.result + 1) c.next_space-input.result c.next_space-input.ensures (omega arith) c.if-input-end.false in
+    let in5 : c.next_space-payload.result < length c.args.line.now = stops_within c.args.line.now (c.next_space-input.result + 1) c.next_space-payload.result c.next_space-payload.ensures (omega arith) c.if-payload-end.false in
+    omega arith
 
 pub next_space-answers-requires : goal.next_space-answers-requires
-next_space-answers-requires c = let h = within-5 c in omega arith
+next_space-answers-requires c =
+    -- each of these fields ends before the line does
+    let in1 : c.next_space-role.result < length c.args.line.now = stops_within c.args.line.now 0 c.next_space-role.result c.next_space-role.ensures zero-le c.if-role-end.false in
+    let in2 : c.next_space-room.result < length c.args.line.now = stops_within c.args.line.now (c.next_space-role.result + 1) c.next_space-room.result c.next_space-room.ensures (omega arith) c.if-room-end.false in
+    let in3 : c.next_space-machine.result < length c.args.line.now = stops_within c.args.line.now (c.next_space-room.result + 1) c.next_space-machine.result c.next_space-machine.ensures (omega arith) c.if-machine-end.false in
+    let in4 : c.next_space-input.result < length c.args.line.now = stops_within c.args.line.now (c.next_space-machine.result + 1) c.next_space-input.result c.next_space-input.ensures (omega arith) c.if-input-end.false in
+    let in5 : c.next_space-payload.result < length c.args.line.now = stops_within c.args.line.now (c.next_space-input.result + 1) c.next_space-payload.result c.next_space-payload.ensures (omega arith) c.if-payload-end.false in
+    omega arith
 
 pub returns-then-answers-end : goal.returns-then-answers-end
 returns-then-answers-end c =
+    -- each of these fields ends before the line does
+    let in1 : c.next_space-role.result < length c.args.line.now = stops_within c.args.line.now 0 c.next_space-role.result c.next_space-role.ensures zero-le c.if-role-end.false in
+    let in2 : c.next_space-room.result < length c.args.line.now = stops_within c.args.line.now (c.next_space-role.result + 1) c.next_space-room.result c.next_space-room.ensures (omega arith) c.if-room-end.false in
+    let in3 : c.next_space-machine.result < length c.args.line.now = stops_within c.args.line.now (c.next_space-room.result + 1) c.next_space-machine.result c.next_space-machine.ensures (omega arith) c.if-machine-end.false in
+    let in4 : c.next_space-input.result < length c.args.line.now = stops_within c.args.line.now (c.next_space-machine.result + 1) c.next_space-input.result c.next_space-input.ensures (omega arith) c.if-input-end.false in
+    let in5 : c.next_space-payload.result < length c.args.line.now = stops_within c.args.line.now (c.next_space-input.result + 1) c.next_space-payload.result c.next_space-payload.ensures (omega arith) c.if-payload-end.false in
     let l = c.args.line.now in
-    let n1 = count_next l 0 c.next_space-role.result c.next_space-role.ensures (within-1 c) in
-    let n2 = count_next l (c.next_space-role.result + 1) c.next_space-room.result c.next_space-room.ensures (within-2 c) in
-    let n3 = count_next l (c.next_space-room.result + 1) c.next_space-machine.result c.next_space-machine.ensures (within-3 c) in
-    let n4 = count_next l (c.next_space-machine.result + 1) c.next_space-input.result c.next_space-input.ensures (within-4 c) in
-    let n5 = count_next l (c.next_space-input.result + 1) c.next_space-payload.result c.next_space-payload.ensures (within-5 c) in
-    let h = within-5 c in
+    let n1 = count_next l 0 c.next_space-role.result c.next_space-role.ensures in1 in
+    let n2 = count_next l (c.next_space-role.result + 1) c.next_space-room.result c.next_space-room.ensures in2 in
+    let n3 = count_next l (c.next_space-room.result + 1) c.next_space-machine.result c.next_space-machine.ensures in3 in
+    let n4 = count_next l (c.next_space-machine.result + 1) c.next_space-input.result c.next_space-input.ensures in4 in
+    let n5 = count_next l (c.next_space-input.result + 1) c.next_space-payload.result c.next_space-payload.ensures in5 in
+    let h = in5 in
     let w = stops_within l (c.next_space-payload.result + 1) c.next_space-answers.result c.next_space-answers.ensures (omega arith) c.if-answers-end.true in
     let n6 = count_next l (c.next_space-payload.result + 1) c.next_space-answers.result c.next_space-answers.ensures w in
     let n7 = some_field (drop (c.next_space-answers.result + 1) l) in
@@ -114,17 +167,23 @@ returns-then-answers-end c =
 pub returns : goal.returns
 unfolding line_at
 returns c =
+    -- each of these fields ends before the line does
+    let in1 : c.next_space-role.result < length c.args.line.now = stops_within c.args.line.now 0 c.next_space-role.result c.next_space-role.ensures zero-le c.if-role-end.false in
+    let in2 : c.next_space-room.result < length c.args.line.now = stops_within c.args.line.now (c.next_space-role.result + 1) c.next_space-room.result c.next_space-room.ensures (omega arith) c.if-room-end.false in
+    let in3 : c.next_space-machine.result < length c.args.line.now = stops_within c.args.line.now (c.next_space-room.result + 1) c.next_space-machine.result c.next_space-machine.ensures (omega arith) c.if-machine-end.false in
+    let in4 : c.next_space-input.result < length c.args.line.now = stops_within c.args.line.now (c.next_space-machine.result + 1) c.next_space-input.result c.next_space-input.ensures (omega arith) c.if-input-end.false in
+    let in5 : c.next_space-payload.result < length c.args.line.now = stops_within c.args.line.now (c.next_space-input.result + 1) c.next_space-payload.result c.next_space-payload.ensures (omega arith) c.if-payload-end.false in
     let l = c.args.line.now in
     let e1 = c.next_space-role in
-    let w1 = within-1 c in
+    let w1 = in1 in
     let e2 = c.next_space-room in
-    let w2 = within-2 c in
+    let w2 = in2 in
     let e3 = c.next_space-machine in
-    let w3 = within-3 c in
+    let w3 = in3 in
     let e4 = c.next_space-input in
-    let w4 = within-4 c in
+    let w4 = in4 in
     let e5 = c.next_space-payload in
-    let w5 = within-5 c in
+    let w5 = in5 in
     let e6 = c.next_space-answers in
     let f1 = next_field l 0 e1.result e1.ensures w1 in
     let f2 = next_field l (e1.result + 1) e2.result e2.ensures w2 in
