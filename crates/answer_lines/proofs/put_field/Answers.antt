@@ -21,8 +21,8 @@ returns-then-n-eq0 c =
 pub overflow_add-end : goal.overflow_add-end
 overflow_add-end c = let n = octets_length c.args.octets.now c.if-n-eq0.false in omega arith
 
-part-put-digits-end : tie.Need-slice-bounds-put-digits-end
-part-put-digits-end c = let n = octets_length c.before.before.before.args.octets.now c.if1.false in omega arith
+pub slice_bounds-put_digits-end : goal.slice_bounds-put_digits-end
+slice_bounds-put_digits-end c = let n = octets_length c.args.octets.now c.if-n-eq0.false in omega arith
 
 pub returns : goal.returns
 returns c =

@@ -7,13 +7,10 @@ use Rattle.answer_lines.proofs.Texts.{word_in_front}
 use borrow.Author.Rules.{rules}
 use Rattle.answer_lines.proofs.put_word.Goals as goal
 
-size : (c : tie.Start) → length c.args.text.octets ≡ 96
-size c = search rules
-
 pub returns : goal.returns
 returns c =
     let a = c.args in
-    let n = size c in
+    let n : length a.text.octets ≡ 96 = search rules in
     let at = a.text.at - length a.word.now in (
       ap (drop at) c.write.ensures.slice ∙ word_in_front a.text.octets a.word.now at a.text.at (omega arith) (omega arith),
       omega arith,

@@ -1,5 +1,6 @@
 -- `handlers::payload::read_features` meets its contract. Assumes nothing.
 use mathlib.Core.Path.{refl}
+use borrow.Enum.Refused.{opened}
 use borrow.Author.Tests.{eq-eqb, ne_eqb}
 use Rattle.protocol.specs.Handlers.{features_in}
 use Rattle.handlers.proofs.Features.{not_decoded, six}
@@ -17,7 +18,7 @@ returns-in_default c = (
   rw (
     eq-eqb _ _ c.if-payload-ne6.false,
     ← c.decode.ensures,
-    not_decoded _ c.in_default.keys2,
+    not_decoded _ (opened c.in_default.in_default-own.keys2),
   ),
   refl,
 )
