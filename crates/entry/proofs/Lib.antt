@@ -1,3 +1,1 @@
-pub mod InPlace
-pub mod Keeps
-pub mod OnLocal
+mod Keeps
