@@ -5,6 +5,7 @@ use Rattle.protocol.specs.Handlers.{enter, enter_phase}
 use Rattle.ops.specs.Run.{run}
 use Rattle.handlers.specs.Outcomes.{finished_of}
 use Rattle.phases.proofs.Entering.{no_call_lem}
+use borrow.Enum.Refused.{opened}
 use borrow.Author.Rules.{rules}
 use Rattle.phases.proofs.enter.Goals as goal
 
@@ -26,4 +27,4 @@ pub returns-in_default : goal.returns-in_default
 unfolding enter
 returns-in_default c =
     let a = c.args in
-    ap (finished_of a.current) (sym (no_call_lem a.answers.now a.next a.trace a.next.phase c.in_default.keys3))
+    ap (finished_of a.current) (sym (no_call_lem a.answers.now a.next a.trace a.next.phase (opened c.in_default.in_default-own.keys3)))

@@ -9,7 +9,10 @@ use borrow.Author.Rules.{rules}
 use Rattle.phases.proofs.enter_success.Goals as goal
 
 pub returns-in_default : goal.returns-in_default
-returns-in_default c = rw c.in_default.is
+returns-in_default c =
+    let a = c.args in
+    ap (λ (o : OptionBond). finished_of a.current (run a.answers.now (enter_success a.next o) a.trace))
+    (sym c.in_default.is)
 
 pub returns-then-want_bonding : goal.returns-then-want_bonding
 returns-then-want_bonding c =
