@@ -2,8 +2,10 @@
 use mathlib.Core.Path.{◌∙◌, ap, sym}
 use Rattle.ops.specs.Run.{run}
 use Rattle.machine.specs.declared.Machine.{Machine}
-use Rattle.protocol.specs.Handlers.{Handler}
+use Rattle.protocol.specs.Handlers.{Handler, other_input}
 use Rattle.handlers.proofs.Outcoming.{no_command, on_command_lem, ran_of}
+use Rattle.types.specs.declared.types.Command.TheVariants as command
+use Rattle.protocol.specs.LegacyCentral.{handle_peer_confirm}
 use borrow.Author.Rules.{rules}
 use Rattle.legacy_central.proofs.waiting_confirm.Goals as goal
 
@@ -11,10 +13,10 @@ pub returns-then-is_command : goal.returns-then-is_command
 returns-then-is_command c =
     let a = c.args in
     c.handle_peer_confirm.ensures
-    ∙ ap (λ (h : Handler Machine). run a.answers.now h a.trace) (on_command_lem _ a.input _ _ (sym c.if-is_command.true ∙ c.is_command.ensures))
+    ∙ ap (λ (h : Handler Machine). run a.answers.now h a.trace) (on_command_lem command.PairingConfirm a.input (handle_peer_confirm a.current.confirm_data a.current.pairing_data a.payload.now) (other_input a.current a.payload.now a.input) (sym c.if-is_command.true ∙ c.is_command.ensures))
 
 pub returns : goal.returns
 returns c =
     let a = c.args in
     ran_of _ _ _ (c.other_input.ensures a.answers.now)
-    ∙ ap (λ (h : Handler Machine). run a.answers.now h a.trace) (no_command _ a.input _ _ (sym c.if-is_command.false ∙ c.is_command.ensures))
+    ∙ ap (λ (h : Handler Machine). run a.answers.now h a.trace) (no_command command.PairingConfirm a.input (handle_peer_confirm a.current.confirm_data a.current.pairing_data a.payload.now) (other_input a.current a.payload.now a.input) (sym c.if-is_command.false ∙ c.is_command.ensures))

@@ -2,9 +2,12 @@
 use mathlib.Core.Path.{◌∙◌, ap, sym}
 use Rattle.ops.specs.Run.{run}
 use Rattle.machine.specs.declared.Machine.{Machine}
-use Rattle.protocol.specs.Handlers.{Handler}
+use Rattle.protocol.specs.Handlers.{Handler, handle_encryption_information, other_input}
 use Rattle.handlers.proofs.Outcoming.{no_command, on_command_lem, ran_of}
 use borrow.Author.Tests.{eq-eqb, ne_eqb}
+use Rattle.types.specs.declared.types.Command.TheVariants as command
+use mathlib.Core.Bool.{true}
+use Rattle.protocol.specs.LegacyPeripheral.{handle_central_identification}
 use borrow.Author.Rules.{rules}
 use Rattle.legacy_peripheral.proofs.receiving_keys.Goals as goal
 
@@ -13,28 +16,28 @@ returns-then-is_command c =
     let a = c.args in
     λ s. rw (eq-eqb _ _ c.if-phase-eq0.true) (
     ran_of _ _ _ (c.handle_encryption_information.ensures s)
-    ∙ ap (λ (h : Handler Machine). run s h a.trace) (on_command_lem _ a.input _ _ (sym c.if-is_command.true ∙ c.is_command.ensures)))
+    ∙ ap (λ (h : Handler Machine). run s h a.trace) (on_command_lem command.EncryptionInformation a.input (handle_encryption_information a.current.pairing_data a.payload.now) (other_input a.current a.payload.now a.input) (sym c.if-is_command.true ∙ c.is_command.ensures)))
 
 pub returns-then-phase-eq0 : goal.returns-then-phase-eq0
 returns-then-phase-eq0 c =
     let a = c.args in
     λ s. rw (eq-eqb _ _ c.if-phase-eq0.true) (
     ran_of _ _ _ (c.other_input.ensures s)
-    ∙ ap (λ (h : Handler Machine). run s h a.trace) (no_command _ a.input _ _ (sym c.if-is_command.false ∙ c.is_command.ensures)))
+    ∙ ap (λ (h : Handler Machine). run s h a.trace) (no_command command.EncryptionInformation a.input (handle_encryption_information a.current.pairing_data a.payload.now) (other_input a.current a.payload.now a.input) (sym c.if-is_command.false ∙ c.is_command.ensures)))
 
 pub returns-then-is_command-2 : goal.returns-then-is_command-2
 returns-then-is_command-2 c =
     let a = c.args in
     λ s. rw (ne_eqb _ _ c.if-phase-eq0.false, eq-eqb _ _ c.if-phase-eq1.true) (
     c.handle_central_identification.ensures s
-    ∙ ap (λ (h : Handler Machine). run s h a.trace) (on_command_lem _ a.input _ _ (sym c.if-is_command-2.true ∙ c.is_command-then-phase-eq1.ensures)))
+    ∙ ap (λ (h : Handler Machine). run s h a.trace) (on_command_lem command.CentralIdentification a.input (handle_central_identification a.current.pairing_data a.payload.now) (other_input a.current a.payload.now a.input) (sym c.if-is_command-2.true ∙ c.is_command-then-phase-eq1.ensures)))
 
 pub returns-then-phase-eq1 : goal.returns-then-phase-eq1
 returns-then-phase-eq1 c =
     let a = c.args in
     λ s. rw (ne_eqb _ _ c.if-phase-eq0.false, eq-eqb _ _ c.if-phase-eq1.true) (
     ran_of _ _ _ (c.other_input-then-phase-eq1.ensures s)
-    ∙ ap (λ (h : Handler Machine). run s h a.trace) (no_command _ a.input _ _ (sym c.if-is_command-2.false ∙ c.is_command-then-phase-eq1.ensures)))
+    ∙ ap (λ (h : Handler Machine). run s h a.trace) (no_command command.CentralIdentification a.input (handle_central_identification a.current.pairing_data a.payload.now) (other_input a.current a.payload.now a.input) (sym c.if-is_command-2.false ∙ c.is_command-then-phase-eq1.ensures)))
 
 pub returns : goal.returns
 returns c =
