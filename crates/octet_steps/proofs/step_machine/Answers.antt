@@ -5,17 +5,13 @@ use Rattle.octets.specs.Answer.{accepted}
 use Rattle.record.specs.Record.{machine_of}
 use Rattle.octet_steps.specs.Steps.{step_on}
 use Rattle.octet_steps.proofs.Reading.{was_refused, was_read, read_length}
+use Rattle.octet_steps.proofs.step_machine.Goals.{After-input_of}
 use Rattle.octet_steps.proofs.step_machine.Goals as goal
 
 -- the machine of the record that was read
-machine_read_lem : (c : tie.After-current) →
-    let found = c.before.before.before in
-    let end = found.before.before.before in
-    let a = end.before.before.before.before.before.before.before.args in
-    machine_of end.end.given.0.0 a.machine.now ≡ accepted found.read-machine.result.machine
+machine_read_lem : (c : After-input_of) → machine_of c.in-Ok.end c.args.machine.now ≡ accepted c.read_machine-found.result.machine
 machine_read_lem c =
-    let found = c.before.before.before in
-    was_read _ found.read-machine.result found.read-machine.ensures c.before.enum-told2.given.1
+    was_read (machine_of c.in-Ok.end c.args.machine.now) c.read_machine-found.result c.read_machine-found.ensures c.in_default-reading.is
 
 pub returns-in_default : goal.returns-in_default
 unfolding step_on
@@ -37,7 +33,7 @@ returns-in-Refused c =
 pub step_read-requires : goal.step_read-requires
 step_read-requires c =
     let current = c in
-    read_length _ _ _ (machine_read_lem current)
+    read_length _ _ _ (machine_read_lem (goal.at.step_read-requires c).After-input_of)
 
 pub returns-in-Ok-input_of : goal.returns-in-Ok-input_of
 unfolding step_on
@@ -49,8 +45,8 @@ returns-in-Ok-input_of c =
     rw (
       ← end.role_of.ensures,
       end.in-Ok.is,
-      machine_read_lem current,
-      ← i.Input-of.ensures,
+      machine_read_lem (goal.at.returns-in-Ok-input_of c).After-input_of,
+      ← i.input_of.ensures,
       i.in-Ok-input_of.is,
     ) stepped.step_read.ensures
 
@@ -62,7 +58,7 @@ returns-in-Refused-input_of c =
     rw (
       ← end.role_of.ensures,
       end.in-Ok.is,
-      machine_read_lem current,
-      ← c.Input-of.ensures,
+      machine_read_lem (goal.at.returns-in-Refused-input_of c).After-input_of,
+      ← c.input_of.ensures,
       c.in-Refused-input_of.is,
     )

@@ -7,13 +7,10 @@ use Rattle.record.proofs.Sizes.{record_length}
 use Rattle.octets.proofs.Parts.{over_all}
 use Rattle.octet_steps.proofs.store.Goals as goal
 
-sizes : (c : tie.Start) → (length c.args.next.confirm_data.preq ≡ 7) × (length c.args.next.confirm_data.pres ≡ 7)
-sizes c = (search rules, search rules)
-
 pub returns : goal.returns
 returns c =
     let start = c in
     let m = start.args.next in
-    let n = sizes start in
+    let n : (length m.confirm_data.preq ≡ 7) × (length m.confirm_data.pres ≡ 7) = (search rules, search rules) in
     c.write_machine.ensures.slice
     ∙ over_all start.args.machine.now (machine_octets m) (start.requires ∙ sym (record_length m n.0 n.1))

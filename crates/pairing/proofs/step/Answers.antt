@@ -21,7 +21,7 @@ returns-then-not-is_known c =
     let a = c.args in
     ap (λ (r : Stepped). step_of r a.list.now) c.refused-then-not-is_known.ensures
     ∙ sym (refused_code a.role a.machine a.input a.payload.now a.answers.now a.list.now (omega arith)
-    (sym c.is_Known.ensures ∙ not-true _ c.if-not-is_known.true))
+    (sym c.is_known.ensures ∙ c.if-not-is_known.true))
 
 pub returns : goal.returns
 returns c =
@@ -29,4 +29,4 @@ returns c =
     c.report.ensures
     ∙ ap (λ (f : Finished). reported a.machine a.list.now f) c.handle_input-finished.ensures
     ∙ reported_step a.role a.machine a.input a.payload.now a.answers.now a.list.now (omega arith)
-    (sym c.is_Known.ensures ∙ not-false _ c.if-not-is_known.false)
+    (sym c.is_known.ensures ∙ c.if-not-is_known.false)
