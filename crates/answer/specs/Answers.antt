@@ -11,7 +11,6 @@ use Rattle.crypto.specs.declared.crypto.Nonce.{Nonce}
 use Rattle.types.specs.declared.types.PassKey.{PassKey}
 use Rattle.bond.specs.Bond.{address_of, verdict_error, flag_of, bond_of}
 use Rattle.host.specs.Calls.{kind_of, encryption_kind}
-use Rattle.bond.specs.declared.Address.{Address}
 use Rattle.bond.specs.declared.OptionBond.TheVariants as option
 use Rattle.host.specs.declared.call.Question.{Question}
 use Rattle.host.specs.declared.call.Question.TheVariants as question

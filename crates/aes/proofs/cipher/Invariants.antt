@@ -1,15 +1,10 @@
 -- `aes::cipher` meets its contract. Assumes nothing.
-use mathlib.Core.Path.{◌≡◌, refl, sym, ap, ap₂, ◌∙◌}
+use mathlib.Core.Path.{◌≡◌}
 use mathlib.Core.List.{List}
-use Prim.Native.Nat.{ℕ, suc, ◌-◌, ◌≤◌, ◌<◌}
-use native.Mathlib.Numerals.{add-one}
-use native.Mathlib.Omega.{arith}
-use Rattle.aes.specs.Gf.{xtime}
-use Rattle.aes.specs.Aes.{sub_bytes, shift_rows, add_round_key, power, key_expansion, round_key, full_round, rounds, cipher, aes128}
-use Rattle.aes.specs.Columns.{octets, next_key}
+use Prim.Native.Nat.{ℕ, ◌-◌, ◌≤◌}
+use Rattle.aes.specs.Aes.{power, key_expansion, round_key, rounds}
+use Rattle.aes.specs.Columns.{octets}
 use Rattle.aes.specs.declared.Block.{Block}
-use Rattle.aes.proofs.Columns.{octets_length}
-use Rattle.aes.proofs.Schedule.{first_round_key, next_round_key}
 use Rattle.aes.proofs.cipher.Given as goal
 
 abbrev pub schedule : Block → List ℕ

@@ -1,7 +1,6 @@
 -- `aes::double` meets its contract. Assumes nothing.
 use mathlib.Core.Path.{refl}
 use Rattle.aes.specs.Gf.{xtime}
-use borrow.Author.Rules.{rules}
 use Rattle.aes.proofs.double.Goals as goal
 
 pub returns : goal.returns

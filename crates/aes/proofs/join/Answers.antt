@@ -1,6 +1,5 @@
 -- `aes::join` meets its contract. Assumes nothing.
 use Rattle.aes.proofs.Columns.{joined}
-use borrow.Author.Rules.{rules}
 use Rattle.aes.proofs.join.Goals as goal
 
 pub returns : goal.returns

@@ -4,7 +4,6 @@ use mathlib.Core.List.{List, [], ◌++◌, append-nil}
 use Prim.Native.Nat.{ℕ, suc, ◌+◌, ◌-◌, ◌*◌, ◌≤◌, ◌<◌}
 use native.Mathlib.Numerals.{add-one}
 use native.Mathlib.Omega.{arith}
-use borrow.Author.Rules.{rules}
 use lib.ListN.{length, replicate, length-append, length-replicate}
 use Rattle.octets.specs.Octets.{write_at}
 use Rattle.octets.proofs.Lists.{drop_replicate}

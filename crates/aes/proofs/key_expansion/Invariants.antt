@@ -1,20 +1,11 @@
 -- `aes::key_expansion` meets its contract. Assumes nothing.
-use mathlib.Core.Path.{◌≡◌, refl, sym, ap, ap₂, ◌∙◌}
-use mathlib.Core.List.{List, [], ◌++◌, append-nil}
-use Prim.Native.Nat.{ℕ, suc, ◌+◌, ◌-◌, ◌*◌, ◌≤◌, ◌<◌}
-use native.Mathlib.Numerals.{add-one}
-use native.Mathlib.Omega.{arith}
-use borrow.Author.Rules.{rules}
-use lib.ListN.{length, replicate, length-append, length-replicate}
-use Rattle.octets.specs.Octets.{write_at}
-use Rattle.octets.proofs.Lists.{drop_replicate}
-use Rattle.octets.proofs.Parts.{write_next}
-use Rattle.aes.specs.Gf.{xtime}
+use mathlib.Core.Path.{◌≡◌}
+use mathlib.Core.List.{List, ◌++◌}
+use Prim.Native.Nat.{ℕ, ◌-◌, ◌*◌, ◌≤◌}
+use lib.ListN.{length, replicate}
 use Rattle.aes.specs.Aes.{power, expand, key_expansion, round_key}
-use Rattle.aes.specs.Columns.{octets, next_key}
+use Rattle.aes.specs.Columns.{octets}
 use Rattle.aes.specs.declared.Block.{Block}
-use Rattle.aes.proofs.Columns.{octets_length}
-use Rattle.aes.proofs.Schedule.{first_round_key, next_round_key, length_expand, expand_next}
 use Rattle.aes.proofs.key_expansion.Given as goal
 
 pub record Expanded (k₀ k : Block) (w : List ℕ) (r n : ℕ) : Type 0 where

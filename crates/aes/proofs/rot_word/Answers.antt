@@ -1,6 +1,5 @@
 -- `aes::rot_word` meets its contract. Assumes nothing.
 use Rattle.aes.proofs.Columns.{rotated_word}
-use borrow.Author.Rules.{rules}
 use Rattle.aes.proofs.rot_word.Goals as goal
 
 pub returns : goal.returns

@@ -7,7 +7,6 @@ use Rattle.aes.specs.Gf.{sub_byte}
 use Rattle.aes.specs.Columns.{octet, substitution}
 use Rattle.aes.proofs.Substitution.{substitution_at}
 use Rattle.aes.proofs.Columns.{octet_lt}
-use borrow.Author.Rules.{rules}
 use Rattle.aes.proofs.sub_octets.Goals as goal
 
 entry : {t : List ℕ} → t ≡ substitution → (k : ℕ) → k < 256 → get_or t k 0 ≡ sub_byte k

@@ -1,5 +1,4 @@
 -- `aes::sub_shift` meets its contract. Assumes nothing.
-use borrow.Author.Rules.{rules}
 use Rattle.aes.specs.Columns.{octets}
 use Rattle.aes.proofs.Columns.{shifted_columns}
 use Rattle.aes.proofs.sub_shift.Goals as goal

@@ -6,7 +6,6 @@ use native.Mathlib.Omega.{arith}
 use borrow.Author.Tests.{eq-eqb, ne_eqb, lt-ltb, le-ltb}
 use lib.ListN.{length}
 use Rattle.answer.specs.Answers.{body_at}
-use borrow.Author.Rules.{rules}
 use Rattle.answer.proofs.frame_at.Goals as goal
 
 and_false : (b : Bool) → (b && false) ≡ false

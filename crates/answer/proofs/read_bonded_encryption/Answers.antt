@@ -6,7 +6,7 @@ use lib.Dec.{lit<}
 use borrow.Author.Tests.{eq-eqb, ne_eqb}
 use Rattle.octets.proofs.Lists.{within_part, element_of_part}
 use Rattle.answer.specs.Answers.{bonded_at}
-use Rattle.answer.proofs.Answering.{body_found, body_stopped, on_stop, body_within, first_octet, not_back}
+use Rattle.answer.proofs.Answering.{body_found, body_stopped, on_stop, body_within, first_octet}
 use borrow.Author.Rules.{rules}
 use Rattle.answer.proofs.read_bonded_encryption.Goals as goal
 

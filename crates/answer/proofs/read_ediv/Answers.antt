@@ -2,7 +2,6 @@
 use native.Mathlib.Omega.{arith}
 use Rattle.answer.specs.Answers.{ediv_at}
 use Rattle.answer.proofs.Answering.{body_found, body_stopped, on_stop, body_within}
-use borrow.Author.Rules.{rules}
 use Rattle.answer.proofs.read_ediv.Goals as goal
 
 pub read_u16-requires : goal.read_u16-requires

@@ -2,7 +2,6 @@
 use native.Mathlib.Omega.{arith}
 use Rattle.answer.specs.Answers.{ltk_at}
 use Rattle.answer.proofs.Answering.{body_found, body_stopped, on_stop, body_within}
-use borrow.Author.Rules.{rules}
 use Rattle.answer.proofs.read_ltk.Goals as goal
 
 pub read_word-requires : goal.read_word-requires

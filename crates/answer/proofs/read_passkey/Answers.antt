@@ -3,7 +3,6 @@ use native.Mathlib.Omega.{arith}
 use borrow.Author.Tests.{lt-ltb, le-ltb}
 use Rattle.answer.specs.Answers.{pass_key_at}
 use Rattle.answer.proofs.Answering.{body_found, body_stopped, on_stop, body_within}
-use borrow.Author.Rules.{rules}
 use Rattle.answer.proofs.read_passkey.Goals as goal
 
 pub read_u32-drawn-requires : goal.read_u32-drawn-requires

@@ -2,7 +2,6 @@
 use native.Mathlib.Omega.{arith}
 use Rattle.answer.specs.Answers.{rand_at}
 use Rattle.answer.proofs.Answering.{body_found, body_stopped, on_stop, body_within}
-use borrow.Author.Rules.{rules}
 use Rattle.answer.proofs.read_rand.Goals as goal
 
 pub read_u64-requires : goal.read_u64-requires

@@ -3,7 +3,6 @@ use native.Mathlib.Omega.{arith}
 use lib.Dec.{lit<}
 use Rattle.answer.specs.Answers.{verdict_at}
 use Rattle.answer.proofs.Answering.{body_found, body_stopped, on_stop, body_within, first_octet}
-use borrow.Author.Rules.{rules}
 use Rattle.answer.proofs.read_verdict.Goals as goal
 
 pub bounds-answers-b : goal.bounds-answers-b

@@ -3,7 +3,6 @@ use native.Mathlib.Omega.{arith}
 use native.Mathlib.Nat.{add-zero}
 use Rattle.octets.proofs.Lists.{within_part, element_of_part}
 use Rattle.bond.specs.Bond.{address_of}
-use borrow.Author.Rules.{rules}
 use Rattle.bond.proofs.read_address.Goals as goal
 
 pub returns : goal.returns

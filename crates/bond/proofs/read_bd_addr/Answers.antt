@@ -4,7 +4,6 @@ use lib.ListN.{drop}
 use lib.Seq.{take-take}
 use Rattle.octets.proofs.Lists.{within_part}
 use Rattle.bond.specs.Bond.{bd_addr_of}
-use borrow.Author.Rules.{rules}
 use Rattle.bond.proofs.read_bd_addr.Goals as goal
 
 pub returns : goal.returns

@@ -5,7 +5,6 @@ use lib.ListN.{drop}
 use lib.Seq.{take-take}
 use Rattle.octets.proofs.Lists.{within_part, element_of_part}
 use Rattle.bond.specs.Bond.{try_flag, bond_of, bond_with}
-use borrow.Author.Rules.{rules}
 use Rattle.bond.proofs.read_bond.Goals as goal
 
 pub returns-in_default : goal.returns-in_default

@@ -5,7 +5,6 @@ use mathlib.Core.Path.{sym}
 use mathlib.Core.Option.{none, some}
 use native.Mathlib.Omega.{arith}
 use lib.ListN.{get_or-eq_default}
-use borrow.Author.Rules.{rules}
 use Rattle.bond.proofs.read_flag.Goals as goal
 
 pub returns : goal.returns

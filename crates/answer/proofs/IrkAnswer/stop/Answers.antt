@@ -1,5 +1,4 @@
 -- `answer::IrkAnswer::stop` meets its contract. Assumes nothing.
-use borrow.Author.Rules.{rules}
 use Rattle.answer.proofs.Answering.{stop_back}
 use Rattle.answer.proofs.IrkAnswer.stop.Goals as goal
 

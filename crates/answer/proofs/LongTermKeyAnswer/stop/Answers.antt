@@ -1,5 +1,4 @@
 -- `answer::LongTermKeyAnswer::stop` meets its contract. Assumes nothing.
-use borrow.Author.Rules.{rules}
 use Rattle.answer.proofs.Answering.{stop_back}
 use Rattle.answer.proofs.LongTermKeyAnswer.stop.Goals as goal
 

@@ -1,5 +1,4 @@
 -- `answer::NonceAnswer::stop` meets its contract. Assumes nothing.
-use borrow.Author.Rules.{rules}
 use Rattle.answer.proofs.Answering.{stop_back}
 use Rattle.answer.proofs.NonceAnswer.stop.Goals as goal
 

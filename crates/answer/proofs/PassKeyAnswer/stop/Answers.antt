@@ -1,5 +1,4 @@
 -- `answer::PassKeyAnswer::stop` meets its contract. Assumes nothing.
-use borrow.Author.Rules.{rules}
 use Rattle.answer.proofs.Answering.{stop_back}
 use Rattle.answer.proofs.PassKeyAnswer.stop.Goals as goal
 

@@ -1,5 +1,4 @@
 -- `answer::RandAnswer::stop` meets its contract. Assumes nothing.
-use borrow.Author.Rules.{rules}
 use Rattle.answer.proofs.Answering.{stop_back}
 use Rattle.answer.proofs.RandAnswer.stop.Goals as goal
 

@@ -1,6 +1,5 @@
 -- `bond::Address::encode` meets its contract. Assumes nothing.
 use Rattle.bond.specs.Bond.{bd_addr_octets, address_octets}
-use borrow.Author.Rules.{rules}
 use Rattle.bond.proofs.Address.encode.Goals as goal
 
 pub returns : goal.returns

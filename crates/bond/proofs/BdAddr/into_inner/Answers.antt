@@ -1,7 +1,6 @@
 -- `bond::BdAddr::into_inner` meets its contract. Assumes nothing.
 use Rattle.bond.specs.Bond.{bd_addr_octets}
 use mathlib.Core.Path.{refl}
-use borrow.Author.Rules.{rules}
 use Rattle.bond.proofs.BdAddr.into_inner.Goals as goal
 
 pub returns : goal.returns

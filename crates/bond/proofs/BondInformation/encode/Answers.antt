@@ -6,7 +6,6 @@ use Rattle.octets.specs.Octets.{to_octets, octets_of}
 use Rattle.octets.proofs.Lists.{reads_from}
 use Rattle.bond.specs.declared.BondInformation.{BondInformation}
 use Rattle.bond.specs.Bond.{bd_addr_octets, address_octets, flag_code, bond_octets}
-use borrow.Author.Rules.{rules}
 use Rattle.bond.proofs.BondInformation.encode.Goals as goal
 
 -- the octets as the code lays them: shut, so that `laid` does not compute the 51 of them

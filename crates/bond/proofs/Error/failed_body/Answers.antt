@@ -1,5 +1,4 @@
 -- `bond::Error::failed_body` meets its contract. Assumes nothing.
-use borrow.Author.Rules.{rules}
 use Rattle.bond.proofs.Error.failed_body.Goals as goal
 
 pub returns-in-Security : goal.returns-in-Security

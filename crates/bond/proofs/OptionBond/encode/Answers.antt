@@ -1,5 +1,4 @@
 -- `bond::OptionBond::encode` meets its contract. Assumes nothing.
-use borrow.Author.Rules.{rules}
 use Rattle.bond.proofs.OptionBond.encode.Goals as goal
 
 pub returns-in-Some : goal.returns-in-Some

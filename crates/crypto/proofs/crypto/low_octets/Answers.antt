@@ -6,7 +6,6 @@ use native.Mathlib.Omega.{arith}
 use lib.Dec.{lit<}
 use lib.Pow.{pow_pos, shl_exact}
 use Rattle.octets.proofs.Octets.{from_mod}
-use borrow.Author.Rules.{rules}
 use Rattle.crypto.proofs.crypto.low_octets.Goals as goal
 
 shifted : (n : ℕ) → n ≤ 7 → (1 * 2 ^ (8 * n)) % 2 ^ 64 ≡ 2 ^ (8 * n)

@@ -1,6 +1,5 @@
 -- `host::call::encryption` meets its contract. Assumes nothing.
 use Rattle.octets.specs.Octets.{octets_of}
-use borrow.Author.Rules.{rules}
 use Rattle.host.proofs.call.encryption.Goals as goal
 
 pub returns : goal.returns

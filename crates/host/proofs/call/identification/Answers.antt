@@ -1,5 +1,4 @@
 -- `host::call::identification` meets its contract. Assumes nothing.
-use borrow.Author.Rules.{rules}
 use Rattle.host.proofs.call.identification.Goals as goal
 
 pub returns : goal.returns

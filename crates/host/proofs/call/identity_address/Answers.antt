@@ -1,6 +1,5 @@
 -- `host::call::identity_address` meets its contract. Assumes nothing.
 use Rattle.bond.specs.Bond.{bd_addr_octets}
-use borrow.Author.Rules.{rules}
 use Rattle.host.proofs.call.identity_address.Goals as goal
 
 pub returns : goal.returns

@@ -4,7 +4,6 @@ use native.Mathlib.Omega.{arith}
 use Rattle.octets.proofs.Parts.{left_out, written_then}
 use Rattle.bond.specs.Bond.{flag_code, bond_present, bond_or_zeros}
 use Rattle.host.proofs.Writing.{bond_length}
-use borrow.Author.Rules.{rules}
 use Rattle.host.proofs.call.write_complete.Goals as goal
 
 pub returns-then-room-lt53 : goal.returns-then-room-lt53

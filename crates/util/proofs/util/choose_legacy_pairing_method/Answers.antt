@@ -18,8 +18,9 @@ returns-then-not-man_in_the_middle-2-clause-value c =
     let peripheral : wants_mitm c.args.peripheral ≡ false = sym c.man_in_the_middle-then-not-man_in_the_middle.ensures ∙ c.if-not-man_in_the_middle-2.true in
     sym (neither_mitm c.args.central c.args.peripheral
     (elim c.else-into_bool.branch [
-      else-into_bool-via-then-into_bool+else-into_bool-2 w ↦ inr (sym w.into_bool-then-into_bool.ensures ∙ w.if-into_bool-2.false)
-    | else-into_bool-via-else-into_bool w ↦ inl (sym c.into_bool.ensures ∙ w.if-into_bool.false) ])
+      | else-into_bool-via-then-into_bool+else-into_bool-2 w ↦ inr (sym w.into_bool-then-into_bool.ensures ∙ w.if-into_bool-2.false)
+      | else-into_bool-via-else-into_bool w ↦ inl (sym c.into_bool.ensures ∙ w.if-into_bool.false)
+    ])
     central peripheral)
 
 pub returns-else-not-man_in_the_middle-clause-value : goal.returns-else-not-man_in_the_middle-clause-value
@@ -27,8 +28,10 @@ returns-else-not-man_in_the_middle-clause-value c =
     c.method_of_io.ensures
     ∙ sym (by_io c.args.central c.args.peripheral
     (elim c.else-into_bool.branch [
-      else-into_bool-via-then-into_bool+else-into_bool-2 w ↦ inr (sym w.into_bool-then-into_bool.ensures ∙ w.if-into_bool-2.false)
-    | else-into_bool-via-else-into_bool w ↦ inl (sym c.into_bool.ensures ∙ w.if-into_bool.false) ])
+      | else-into_bool-via-then-into_bool+else-into_bool-2 w ↦ inr (sym w.into_bool-then-into_bool.ensures ∙ w.if-into_bool-2.false)
+      | else-into_bool-via-else-into_bool w ↦ inl (sym c.into_bool.ensures ∙ w.if-into_bool.false)
+    ])
     (elim c.else-not-man_in_the_middle.branch [
-      else-not-man_in_the_middle-via-then-not-man_in_the_middle+else-not-man_in_the_middle-2 w ↦ inr (sym w.man_in_the_middle-then-not-man_in_the_middle.ensures ∙ w.if-not-man_in_the_middle-2.false)
-    | else-not-man_in_the_middle-via-else-not-man_in_the_middle w ↦ inl (sym c.man_in_the_middle.ensures ∙ w.if-not-man_in_the_middle.false) ]))
+      | else-not-man_in_the_middle-via-then-not-man_in_the_middle+else-not-man_in_the_middle-2 w ↦ inr (sym w.man_in_the_middle-then-not-man_in_the_middle.ensures ∙ w.if-not-man_in_the_middle-2.false)
+      | else-not-man_in_the_middle-via-else-not-man_in_the_middle w ↦ inl (sym c.man_in_the_middle.ensures ∙ w.if-not-man_in_the_middle.false)
+    ]))

@@ -1,5 +1,4 @@
 -- `util::method_of_io` meets its contract. Assumes nothing.
-use borrow.Author.Rules.{rules}
 use mathlib.Core.Path.{sym}
 use Rattle.util.proofs.Choice.{no_input_lem}
 use Rattle.util.proofs.util.method_of_io.Goals as goal

@@ -1,7 +1,6 @@
 -- `crypto::Nonce::new` meets its contract. Assumes nothing.
 use Rattle.octets.specs.Octets.{word_be}
 use Rattle.crypto.specs.Crypto.{non_zero, drawn_nonce}
-use borrow.Author.Rules.{rules}
 use Rattle.crypto.proofs.crypto.Nonce.new.Goals as goal
 
 pub returns-then-equals : goal.returns-then-equals

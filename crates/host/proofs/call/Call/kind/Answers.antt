@@ -1,5 +1,4 @@
 -- `host::call::Call::kind` meets its contract. Assumes nothing.
-use borrow.Author.Rules.{rules}
 use Rattle.host.proofs.call.Call.kind.Goals as goal
 
 pub returns-in-SendPacket : goal.returns-in-SendPacket

@@ -5,7 +5,6 @@ use Rattle.host.proofs.Writing.{body_length_lem, body_short, some_same, some_non
 use mathlib.Core.Path.{◌≡◌, sym, ap, ◌∙◌}
 use mathlib.Core.Option.{some}
 use lib.ListN.{length}
-use borrow.Author.Rules.{rules}
 use Rattle.host.proofs.call.Call.size.Goals.{After-body_length}
 use Rattle.host.proofs.call.Call.size.Goals as goal
 

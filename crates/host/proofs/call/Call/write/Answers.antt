@@ -3,7 +3,6 @@ use mathlib.Core.List.{[], ◌∷◌}
 use native.Mathlib.Omega.{arith}
 use Rattle.octets.proofs.Parts.{left_out, written_then}
 use Rattle.host.specs.Calls.{kind_of, body_of, call_octets}
-use borrow.Author.Rules.{rules}
 use Rattle.host.proofs.call.Call.write.Goals as goal
 
 pub returns-then-room-size : goal.returns-then-room-size

@@ -1,6 +1,5 @@
 -- `host::call::Call::write_body` meets its contract. Assumes nothing.
 use Rattle.host.proofs.Writing.{written_none}
-use borrow.Author.Rules.{rules}
 use Rattle.host.proofs.call.Call.write_body.Goals as goal
 
 pub returns-in-SendPacket : goal.returns-in-SendPacket

@@ -1,5 +1,4 @@
 -- `host::call::ConnectionEvent::kind` meets its contract. Assumes nothing.
-use borrow.Author.Rules.{rules}
 use Rattle.host.proofs.call.ConnectionEvent.kind.Goals as goal
 
 pub returns-in-PairingFailed : goal.returns-in-PairingFailed

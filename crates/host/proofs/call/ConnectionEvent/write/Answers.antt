@@ -1,6 +1,5 @@
 -- `host::call::ConnectionEvent::write` meets its contract. Assumes nothing.
 use Rattle.host.proofs.Writing.{written_none}
-use borrow.Author.Rules.{rules}
 use Rattle.host.proofs.call.ConnectionEvent.write.Goals as goal
 
 pub returns-in-PairingFailed : goal.returns-in-PairingFailed

@@ -1,5 +1,4 @@
 -- `host::call::Draw::kind` meets its contract. Assumes nothing.
-use borrow.Author.Rules.{rules}
 use Rattle.host.proofs.call.Draw.kind.Goals as goal
 
 pub returns-in-Nonce : goal.returns-in-Nonce

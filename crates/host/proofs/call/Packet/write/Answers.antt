@@ -1,5 +1,4 @@
 -- `host::call::Packet::write` meets its contract. Assumes nothing.
-use borrow.Author.Rules.{rules}
 use Rattle.host.proofs.call.Packet.write.Goals as goal
 
 pub returns-in-PairingResponse : goal.returns-in-PairingResponse

@@ -1,5 +1,4 @@
 -- `host::call::Question::kind` meets its contract. Assumes nothing.
-use borrow.Author.Rules.{rules}
 use Rattle.host.proofs.call.Question.kind.Goals as goal
 
 pub returns-in-FindBond : goal.returns-in-FindBond

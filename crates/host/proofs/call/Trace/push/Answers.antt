@@ -1,6 +1,6 @@
 -- `host::call::Trace::push` meets its contract. Assumes nothing.
 use mathlib.Core.Path.{◌≡◌, sym, ◌∙◌}
-use lib.ListN.{length, length-map}
+use lib.ListN.{length}
 use native.Mathlib.Omega.{arith}
 use Rattle.octets.proofs.Parts.{fitting}
 use Rattle.host.specs.Calls.{call_octets, push_of, longest}

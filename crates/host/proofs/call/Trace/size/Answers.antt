@@ -1,7 +1,7 @@
 -- `host::call::Trace::size` meets its contract. Assumes nothing.
 use borrow.Author.Rules.{rules}
 use mathlib.Core.Path.{◌≡◌, sym}
-use lib.ListN.{length, length-map}
+use lib.ListN.{length}
 use lib.Seq.{length-take-le, take_all}
 use native.Mathlib.Omega.{arith}
 use Rattle.host.specs.Calls.{listed, longest}

@@ -3,7 +3,6 @@ use mathlib.Core.Path.{sym}
 use lib.Seq.{length-take-le}
 use native.Mathlib.Omega.{arith}
 use Rattle.host.proofs.Writing.{listed_first, listed_within}
-use borrow.Author.Rules.{rules}
 use Rattle.host.proofs.call.Trace.write.Goals as goal
 
 pub slice_bounds-octets-end : goal.slice_bounds-octets-end

@@ -1,5 +1,4 @@
 -- `types::AuthReq::new_legacy` meets its contract. Assumes nothing.
-use borrow.Author.Rules.{rules}
 use Rattle.types.proofs.types.AuthReq.new_legacy.Goals as goal
 
 pub returns : goal.returns

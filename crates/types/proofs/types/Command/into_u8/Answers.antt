@@ -1,5 +1,4 @@
 -- `types::Command::into_u8` meets its contract. Assumes nothing.
-use borrow.Author.Rules.{rules}
 use Rattle.types.proofs.types.Command.into_u8.Goals as goal
 
 pub returns-in-PairingRequest : goal.returns-in-PairingRequest

@@ -1,5 +1,4 @@
 -- `types::Command::payload_size` meets its contract. Assumes nothing.
-use borrow.Author.Rules.{rules}
 use Rattle.types.proofs.types.Command.payload_size.Goals as goal
 
 pub returns-in-PairingRequest : goal.returns-in-PairingRequest

@@ -1,11 +1,10 @@
 -- `types::PairingFeatures::decode` meets its contract. Assumes nothing.
-use borrow.Author.Rules.{rules}
 use mathlib.Core.Path.{sym, ap, ◌∙◌}
 use mathlib.Core.Logic.{⊎_elim}
 use native.Mathlib.Omega.{arith}
 use Prim.Native.Nat.{◌≤◌}
 use lib.ListN.{get_or}
-use borrow.Author.Tests.{ltb-true, ltb-false}
+use borrow.Author.Tests.{ltb-false}
 use Rattle.types.specs.Capabilities.{io_answer}
 use Rattle.types.specs.Types.{oob_answer, least_key_size, largest_key_size}
 use Rattle.types.proofs.Features.{size_low, size_high, size_read, too_short, bad_io, bad_oob, bad_size, all_read}

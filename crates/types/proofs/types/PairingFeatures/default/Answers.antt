@@ -1,5 +1,4 @@
 -- `types::PairingFeatures::default` meets its contract. Assumes nothing.
-use borrow.Author.Rules.{rules}
 use Rattle.types.specs.Types.{default_features}
 use Rattle.types.proofs.types.PairingFeatures.default.Goals as goal
 

@@ -1,5 +1,4 @@
 -- `types::PairingFeatures::encode` meets its contract. Assumes nothing.
-use borrow.Author.Rules.{rules}
 use Rattle.types.proofs.types.PairingFeatures.encode.Goals as goal
 
 pub returns : goal.returns
