@@ -6,8 +6,9 @@
 ghost use Rattle.std.specs.Prelude.{◌≡◌};
 
 use crypto::Nonce;
-use libc::STDOUT_FILENO;
 use octets::Word128;
+use std::io;
+use std::rt::Env;
 
 fn wide(x: u8) -> u64
     ensures { result ≡ x }
@@ -31,14 +32,13 @@ fn number(text: &[u8]) -> u64 {
     n
 }
 
-// Argument i as a number; 0 where there is none.
-fn argument(i: usize) -> u64 {
+// Argument i as a number; 0 where there is none, and where it is longer than 16 octets.
+fn argument(rt: &impl Env, i: usize) -> u64 {
     let mut text = [0u8; 16];
-    let n = os::arg(i, &mut text);
-    if 16 < n {
-        return 0;
+    match rt.arg(i, &mut text) {
+        Ok(n) => number(&text[0..n]),
+        Err(_) => 0,
     }
-    number(&text[0..n])
 }
 
 // Each block is encrypted under the block before it.
@@ -78,15 +78,13 @@ fn confirms(n: u64) -> Word128 {
     r
 }
 
-fn write_word(w: Word128) {
-    io::print_hex(STDOUT_FILENO, w.high, 16);
-    io::print_hex(STDOUT_FILENO, w.low, 16);
-    io::write_all(STDOUT_FILENO, b"\n");
+fn write_word(rt: &impl Print, w: Word128) -> io::Result<()> {
+    println!(rt; "{:016x}{:016x}", w.high, w.low)
 }
 
-fn main() {
-    let block = blocks(argument(1));
-    let confirm = confirms(argument(2));
-    write_word(Word128::from_be_bytes(block));
-    write_word(confirm);
+fn main(rt: HostRuntime) -> io::Result<()> {
+    let block = blocks(argument(&rt, 1));
+    let confirm = confirms(argument(&rt, 2));
+    write_word(&rt, Word128::from_be_bytes(block))?;
+    write_word(&rt, confirm)
 }
