@@ -1,6 +1,5 @@
 -- `answer_lines::digit_text` meets its contract. Assumes nothing.
 use borrow.Author.Tests.{lt-ltb, le-ltb}
-use borrow.Author.Rules.{rules}
 use Rattle.answer_lines.proofs.digit_text.Goals as goal
 
 pub returns-then-v-lt10 : goal.returns-then-v-lt10

@@ -6,7 +6,6 @@ use lib.ListN.{length}
 use Rattle.octets.proofs.Lists.{whole}
 use Rattle.answer_lines.specs.AnswerLines.{octets_text}
 use Rattle.answer_lines.proofs.Texts.{octets_length}
-use borrow.Author.Rules.{rules}
 use Rattle.answer_lines.proofs.field_length.Goals as goal
 
 pub returns-then-n-eq0 : goal.returns-then-n-eq0

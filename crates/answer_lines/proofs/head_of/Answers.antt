@@ -3,7 +3,6 @@ use mathlib.Core.Path.{ap, ◌∙◌}
 use mathlib.Core.List.{List, ◌∷◌, ◌++◌}
 use Prim.Native.Nat.{ℕ}
 use Rattle.answer_lines.specs.AnswerLines.{decimal, outcome_text, head_text}
-use borrow.Author.Rules.{rules}
 use Rattle.answer_lines.proofs.head_of.Goals as goal
 
 pub returns : goal.returns

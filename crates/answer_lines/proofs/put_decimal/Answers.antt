@@ -3,7 +3,7 @@ use mathlib.Core.Path.{◌≡◌}
 use Prim.Native.Nat.{◌≤◌}
 use native.Mathlib.Omega.{arith}
 use lib.ListN.{length}
-use Rattle.answer_lines.proofs.Decimals.{DecimalPut, none_put, a_place, put_digit, put_last}
+use Rattle.answer_lines.proofs.Decimals.{none_put, a_place, put_digit, put_last}
 use borrow.Author.Rules.{rules}
 use Rattle.answer_lines.proofs.put_decimal.Goals as goal
 

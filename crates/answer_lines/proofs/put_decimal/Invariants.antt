@@ -1,10 +1,5 @@
 -- `answer_lines::put_decimal` meets its contract. Assumes nothing.
-use mathlib.Core.Path.{◌≡◌}
-use Prim.Native.Nat.{◌≤◌}
-use native.Mathlib.Omega.{arith}
-use lib.ListN.{length}
-use Rattle.answer_lines.proofs.Decimals.{DecimalPut, none_put, a_place, put_digit, put_last}
-use borrow.Author.Rules.{rules}
+use Rattle.answer_lines.proofs.Decimals.{DecimalPut}
 use Rattle.answer_lines.proofs.put_decimal.Given as goal
 
 abbrev pub invariant-loop-rest : goal.invariant-loop-rest

@@ -2,7 +2,7 @@
 use Prim.Native.Nat.{◌-◌}
 use native.Mathlib.Omega.{arith}
 use lib.ListN.{length-set}
-use Rattle.answer_lines.proofs.Texts.{DigitsPut, no_digits, more_digits_put, all_digits_put, digits_put_length}
+use Rattle.answer_lines.proofs.Texts.{no_digits, more_digits_put, all_digits_put, digits_put_length}
 use Rattle.answer_lines.proofs.put_digits.Goals as goal
 
 pub loop-i-init : goal.loop-i-init

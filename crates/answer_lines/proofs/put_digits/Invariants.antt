@@ -1,8 +1,6 @@
 -- `answer_lines::put_digits` meets its contract. Assumes nothing.
 use Prim.Native.Nat.{◌-◌}
-use native.Mathlib.Omega.{arith}
-use lib.ListN.{length-set}
-use Rattle.answer_lines.proofs.Texts.{DigitsPut, no_digits, more_digits_put, all_digits_put, digits_put_length}
+use Rattle.answer_lines.proofs.Texts.{DigitsPut}
 use Rattle.answer_lines.proofs.put_digits.Given as goal
 
 abbrev pub invariant-loop-i : goal.invariant-loop-i

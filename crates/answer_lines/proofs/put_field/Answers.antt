@@ -9,7 +9,6 @@ use Rattle.octets.proofs.Lists.{whole}
 use Rattle.octets.proofs.Parts.{first_part, written}
 use Rattle.answer_lines.specs.AnswerLines.{digits_text, octets_text}
 use Rattle.answer_lines.proofs.Texts.{octets_digits, octets_length, digits_length}
-use borrow.Author.Rules.{rules}
 use Rattle.answer_lines.proofs.put_field.Goals as goal
 
 pub returns-then-n-eq0 : goal.returns-then-n-eq0

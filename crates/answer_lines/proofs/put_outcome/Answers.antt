@@ -5,7 +5,6 @@ use Prim.Native.Nat.{ℕ}
 use native.Mathlib.Omega.{arith}
 use Rattle.lines.specs.Text.{refused_word}
 use Rattle.answer_lines.specs.AnswerLines.{outcome_text}
-use borrow.Author.Rules.{rules}
 use Rattle.answer_lines.proofs.put_outcome.Goals as goal
 
 pub put_word-requires-in-Refused : goal.put_word-requires-in-Refused

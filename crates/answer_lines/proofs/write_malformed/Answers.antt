@@ -1,6 +1,5 @@
 -- `answer_lines::write_malformed` meets its contract. Assumes nothing.
 use Rattle.answer_lines.specs.AnswerLines.{malformed_text}
-use borrow.Author.Rules.{rules}
 use Rattle.answer_lines.proofs.write_malformed.Goals as goal
 
 pub returns-then-write : goal.returns-then-write

@@ -3,7 +3,6 @@ use mathlib.Core.Path.{sym, ap, ◌∙◌}
 use Rattle.call_list.specs.CallList.{checked_answer}
 use native.Mathlib.Omega.{arith}
 use Rattle.call_list.proofs.Listing.{call_known, none_known, call_refused}
-use borrow.Author.Rules.{rules}
 use Rattle.call_list.proofs.call_at.Goals as goal
 
 pub returns-then-index-count : goal.returns-then-index-count

@@ -1,13 +1,10 @@
 -- `call_list::check` meets its contract. Assumes nothing.
-use mathlib.Core.Logic.{⊎_elim}
-use mathlib.Core.Path.{◌≡◌, refl, sym, ap, ◌∙◌}
+use mathlib.Core.Path.{refl, sym, ap, ◌∙◌}
 use Prim.Native.Nat.{◌-◌}
 use native.Mathlib.Omega.{arith}
-use lib.ListN.{length}
 use Rattle.host.specs.Calls.{body_size}
 use Rattle.call_list.specs.CallList.{checked_of}
-use Rattle.call_list.proofs.Listing.{Seen, seen_none, seen_unknown, seen_cut, seen_more, seen_all, last_here, not_last, same_call}
-use borrow.Author.Rules.{rules}
+use Rattle.call_list.proofs.Listing.{seen_none, seen_unknown, seen_cut, seen_more, seen_all, last_here, not_last, same_call}
 use Rattle.call_list.proofs.check.Goals.{then-count-index, else-count-index}
 use Rattle.call_list.proofs.check.Goals as goal
 

@@ -2,7 +2,6 @@
 use mathlib.Core.Path.{sym, ap, ◌∙◌}
 use Rattle.call_list.specs.CallList.{checked_answer}
 use Rattle.call_list.proofs.Listing.{count_known, count_refused}
-use borrow.Author.Rules.{rules}
 use Rattle.call_list.proofs.count_calls.Goals as goal
 
 pub returns-in-List : goal.returns-in-List

@@ -1,7 +1,6 @@
 -- `central_helpers::answer_confirm` meets its contract. Assumes nothing.
 use Rattle.ops.proofs.Laws.{and_halt, run_bind}
 use Rattle.handlers.proofs.Outcoming.{outcome_halted}
-use borrow.Author.Rules.{rules}
 use Rattle.central_helpers.proofs.answer_confirm.Goals as goal
 
 pub returns-in_default : goal.returns-in_default

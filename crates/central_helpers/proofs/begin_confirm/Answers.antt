@@ -2,7 +2,6 @@
 use Rattle.ops.proofs.Laws.{and_halt, run_bind}
 use Rattle.protocol.specs.LegacyCentral.{begin_confirm}
 use Rattle.handlers.proofs.Outcoming.{outcome_halted}
-use borrow.Author.Rules.{rules}
 use Rattle.central_helpers.proofs.begin_confirm.Goals as goal
 
 pub returns-in_default : goal.returns-in_default

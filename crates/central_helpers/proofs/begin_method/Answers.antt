@@ -1,6 +1,5 @@
 -- `central_helpers::begin_method` meets its contract. Assumes nothing.
 use Rattle.protocol.specs.LegacyCentral.{begin_method}
-use borrow.Author.Rules.{rules}
 use Rattle.central_helpers.proofs.begin_method.Goals as goal
 
 pub returns-in-OutOfBand : goal.returns-in-OutOfBand

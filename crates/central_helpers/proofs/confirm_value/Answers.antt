@@ -1,6 +1,5 @@
 -- `central_helpers::confirm_value` meets its contract. Assumes nothing.
 use Rattle.protocol.specs.LegacyCentral.{confirm_value}
-use borrow.Author.Rules.{rules}
 use Rattle.central_helpers.proofs.confirm_value.Goals as goal
 
 pub returns : goal.returns

@@ -2,7 +2,6 @@
 use Rattle.answer.proofs.Answering.{stop_back}
 use Rattle.ops.proofs.Laws.{and_halt, ran_stop}
 use Rattle.handlers.proofs.Outcoming.{outcome_halted}
-use borrow.Author.Rules.{rules}
 use Rattle.central_helpers.proofs.display_pass_key.Goals as goal
 
 pub returns-in_default : goal.returns-in_default

@@ -1,7 +1,6 @@
 -- `central_helpers::handle_pairing_random` meets its contract. Assumes nothing.
 use Rattle.protocol.specs.LegacyCentral.{handle_pairing_random}
 use Rattle.handlers.proofs.Reading.{word_held}
-use borrow.Author.Rules.{rules}
 use Rattle.central_helpers.proofs.handle_pairing_random.Goals as goal
 
 pub returns-in_default : goal.returns-in_default

@@ -2,7 +2,6 @@
 use Rattle.ops.proofs.Laws.{and_halt, run_bind}
 use Rattle.protocol.specs.LegacyCentral.{send_all_keys}
 use Rattle.handlers.proofs.Outcoming.{outcome_halted}
-use borrow.Author.Rules.{rules}
 use Rattle.central_helpers.proofs.send_all_keys.Goals as goal
 
 pub returns-in_default : goal.returns-in_default

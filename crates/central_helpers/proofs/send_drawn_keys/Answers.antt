@@ -1,7 +1,6 @@
 -- `central_helpers::send_drawn_keys` meets its contract. Assumes nothing.
 use Rattle.ops.proofs.Laws.{and_halt}
 use Rattle.handlers.proofs.Keying.{keys_sent}
-use borrow.Author.Rules.{rules}
 use Rattle.central_helpers.proofs.send_drawn_keys.Goals as goal
 
 pub returns-in_default : goal.returns-in_default

@@ -1,6 +1,5 @@
 -- `central_helpers::send_encryption_keys` meets its contract. Assumes nothing.
 use Rattle.protocol.specs.Handlers.{send_encryption_key}
-use borrow.Author.Rules.{rules}
 use Rattle.central_helpers.proofs.send_encryption_keys.Goals as goal
 
 pub returns-then-encryption_key : goal.returns-then-encryption_key

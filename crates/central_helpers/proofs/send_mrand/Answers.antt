@@ -1,7 +1,6 @@
 -- `central_helpers::send_mrand` meets its contract. Assumes nothing.
 use Rattle.handlers.proofs.Outcoming.{sending}
 use Rattle.protocol.specs.LegacyCentral.{send_mrand}
-use borrow.Author.Rules.{rules}
 use Rattle.central_helpers.proofs.send_mrand.Goals as goal
 
 pub returns : goal.returns

@@ -1,7 +1,6 @@
 -- `legacy_central::handle_central_identification` meets its contract. Assumes nothing.
 use Rattle.protocol.specs.LegacyCentral.{handle_central_identification}
 use Rattle.handlers.proofs.Reading.{payload_held}
-use borrow.Author.Rules.{rules}
 use Rattle.legacy_central.proofs.handle_central_identification.Goals as goal
 
 pub returns-in_default : goal.returns-in_default

@@ -2,7 +2,6 @@
 use Rattle.protocol.specs.LegacyCentral.{handle_identity_address_information}
 use Rattle.handlers.proofs.Outcoming.{ran_of}
 use Rattle.handlers.proofs.Reading.{payload_held}
-use borrow.Author.Rules.{rules}
 use Rattle.legacy_central.proofs.handle_identity_address_information.Goals as goal
 
 pub returns-in_default : goal.returns-in_default

@@ -1,7 +1,6 @@
 -- `legacy_central::handle_input` meets its contract. Assumes nothing.
 use Rattle.ops.proofs.Laws.{run_bind}
 use Rattle.protocol.specs.LegacyCentral.{handle_input}
-use borrow.Author.Rules.{rules}
 use Rattle.legacy_central.proofs.handle_input.Goals as goal
 
 pub returns : goal.returns

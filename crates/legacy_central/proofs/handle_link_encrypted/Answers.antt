@@ -1,5 +1,4 @@
 -- `legacy_central::handle_link_encrypted` meets its contract. Assumes nothing.
-use borrow.Author.Rules.{rules}
 use Rattle.legacy_central.proofs.handle_link_encrypted.Goals as goal
 
 pub returns-then-encrypted : goal.returns-then-encrypted

@@ -1,6 +1,5 @@
 -- `legacy_central::handle_link_encrypted_success` meets its contract. Assumes nothing.
 use Rattle.protocol.specs.LegacyCentral.{handle_link_encrypted_success}
-use borrow.Author.Rules.{rules}
 use Rattle.legacy_central.proofs.handle_link_encrypted_success.Goals as goal
 
 pub returns-then-want_bonding : goal.returns-then-want_bonding

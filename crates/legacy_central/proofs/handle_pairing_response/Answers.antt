@@ -7,7 +7,6 @@ use mathlib.Core.Path.{◌∙◌, ap}
 use Rattle.protocol.specs.LegacyCentral.{handle_pairing_response}
 use Rattle.handlers.proofs.Outcoming.{ran_of}
 use Rattle.handlers.proofs.Reading.{payload_held}
-use borrow.Author.Rules.{rules}
 use Rattle.legacy_central.proofs.handle_pairing_response.Goals as goal
 
 pub returns-in_default : goal.returns-in_default

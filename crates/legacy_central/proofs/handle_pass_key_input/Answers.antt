@@ -2,7 +2,6 @@
 use Rattle.ops.proofs.Laws.{and_halt, run_bind}
 use Rattle.protocol.specs.LegacyCentral.{handle_pass_key_input}
 use Rattle.handlers.proofs.Outcoming.{ran_of}
-use borrow.Author.Rules.{rules}
 use Rattle.legacy_central.proofs.handle_pass_key_input.Goals as goal
 
 pub returns-in_default : goal.returns-in_default

@@ -2,7 +2,6 @@
 use Rattle.protocol.specs.LegacyCentral.{handle_peer_confirm}
 use Rattle.handlers.proofs.Outcoming.{ran_of}
 use Rattle.handlers.proofs.Reading.{word_held}
-use borrow.Author.Rules.{rules}
 use Rattle.legacy_central.proofs.handle_peer_confirm.Goals as goal
 
 pub returns-in_default : goal.returns-in_default

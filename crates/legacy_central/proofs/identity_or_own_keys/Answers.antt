@@ -1,7 +1,6 @@
 -- `legacy_central::identity_or_own_keys` meets its contract. Assumes nothing.
 use Rattle.protocol.specs.LegacyCentral.{await_identity_or_send}
 use Rattle.handlers.proofs.Outcoming.{ran_of}
-use borrow.Author.Rules.{rules}
 use Rattle.legacy_central.proofs.identity_or_own_keys.Goals as goal
 
 pub returns-then-identity_key : goal.returns-then-identity_key

@@ -8,7 +8,6 @@ use borrow.Author.Tests.{eq-eqb, ne_eqb}
 use Rattle.types.specs.declared.types.Command.TheVariants as command
 use mathlib.Core.Bool.{true}
 use Rattle.protocol.specs.LegacyCentral.{handle_central_identification}
-use borrow.Author.Rules.{rules}
 use Rattle.legacy_central.proofs.receiving_keys.Goals as goal
 
 pub returns-then-is_command : goal.returns-then-is_command

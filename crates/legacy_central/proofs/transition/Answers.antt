@@ -4,7 +4,6 @@ use Rattle.ops.specs.Run.{run}
 use Rattle.machine.specs.declared.Phase.{Phase}
 use Rattle.protocol.specs.LegacyCentral.{transition, transition_from}
 use Rattle.handlers.proofs.Outcoming.{ran_of}
-use borrow.Author.Rules.{rules}
 use Rattle.legacy_central.proofs.transition.Goals as goal
 
 pub returns-in-WaitingPairingResponse : goal.returns-in-WaitingPairingResponse

@@ -5,7 +5,6 @@ use Rattle.machine.specs.declared.Machine.{Machine}
 use Rattle.protocol.specs.Handlers.{Handler}
 use Rattle.handlers.specs.Inputs.{link_found}
 use Rattle.handlers.proofs.Outcoming.{no_link_encrypted, on_link_encrypted_lem, ran_of}
-use borrow.Author.Rules.{rules}
 use Rattle.legacy_central.proofs.waiting_encrypted.Goals as goal
 
 pub returns-in_default : goal.returns-in_default

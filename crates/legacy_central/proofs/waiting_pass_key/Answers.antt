@@ -9,7 +9,6 @@ use Rattle.types.specs.declared.types.Command.TheVariants as command
 use Rattle.types.specs.declared.types.Reason.TheVariants as reason
 use Rattle.bond.specs.declared.Error.TheVariants.{Security}
 use Rattle.protocol.specs.LegacyCentral.{handle_pass_key_input}
-use borrow.Author.Rules.{rules}
 use Rattle.legacy_central.proofs.waiting_pass_key.Goals as goal
 
 pub returns-then-is_command : goal.returns-then-is_command

@@ -1,5 +1,4 @@
 -- `legacy_pairing::legacy_pairing_c1` meets its contract. Assumes nothing.
-use borrow.Author.Rules.{rules}
 use Rattle.legacy_pairing.proofs.legacy_pairing_c1.Goals as goal
 
 pub returns : goal.returns

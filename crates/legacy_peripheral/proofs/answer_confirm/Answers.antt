@@ -1,6 +1,5 @@
 -- `legacy_peripheral::answer_confirm` meets its contract. Assumes nothing.
 use Rattle.ops.proofs.Laws.{and_halt, run_bind}
-use borrow.Author.Rules.{rules}
 use Rattle.legacy_peripheral.proofs.answer_confirm.Goals as goal
 
 pub returns-in_default : goal.returns-in_default

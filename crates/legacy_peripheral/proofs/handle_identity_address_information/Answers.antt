@@ -1,7 +1,6 @@
 -- `legacy_peripheral::handle_identity_address_information` meets its contract. Assumes nothing.
 use Rattle.protocol.specs.LegacyPeripheral.{handle_identity_address_information}
 use Rattle.handlers.proofs.Reading.{payload_held}
-use borrow.Author.Rules.{rules}
 use Rattle.legacy_peripheral.proofs.handle_identity_address_information.Goals as goal
 
 pub returns-in_default : goal.returns-in_default

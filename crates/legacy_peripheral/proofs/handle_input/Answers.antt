@@ -1,7 +1,6 @@
 -- `legacy_peripheral::handle_input` meets its contract. Assumes nothing.
 use Rattle.ops.proofs.Laws.{run_bind}
 use Rattle.protocol.specs.LegacyPeripheral.{handle_input}
-use borrow.Author.Rules.{rules}
 use Rattle.legacy_peripheral.proofs.handle_input.Goals as goal
 
 pub returns : goal.returns

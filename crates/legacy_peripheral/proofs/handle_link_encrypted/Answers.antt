@@ -1,5 +1,4 @@
 -- `legacy_peripheral::handle_link_encrypted` meets its contract. Assumes nothing.
-use borrow.Author.Rules.{rules}
 use Rattle.legacy_peripheral.proofs.handle_link_encrypted.Goals as goal
 
 pub returns-then-encrypted : goal.returns-then-encrypted

@@ -1,7 +1,6 @@
 -- `legacy_peripheral::handle_link_encrypted_success` meets its contract. Assumes nothing.
 use Rattle.ops.proofs.Laws.{and_halt}
 use Rattle.protocol.specs.LegacyPeripheral.{handle_link_encrypted_success, send_keys_or_await_identity}
-use borrow.Author.Rules.{rules}
 use Rattle.legacy_peripheral.proofs.handle_link_encrypted_success.Goals as goal
 
 pub returns-in_default : goal.returns-in_default

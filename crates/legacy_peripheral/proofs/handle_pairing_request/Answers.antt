@@ -8,7 +8,6 @@ use Rattle.handlers.specs.Payloads.{where_found}
 use Rattle.handlers.specs.declared.payload.TryFeatures.{TryFeatures}
 use Rattle.legacy_peripheral.proofs.Asking.{request_then, negotiated_then}
 use Rattle.handlers.proofs.Reading.{payload_held}
-use borrow.Author.Rules.{rules}
 use Rattle.legacy_peripheral.proofs.handle_pairing_request.Goals as goal
 
 pub returns-in_default : goal.returns-in_default

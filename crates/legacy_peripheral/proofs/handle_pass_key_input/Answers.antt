@@ -1,6 +1,5 @@
 -- `legacy_peripheral::handle_pass_key_input` meets its contract. Assumes nothing.
 use Rattle.protocol.specs.LegacyPeripheral.{handle_pass_key_input}
-use borrow.Author.Rules.{rules}
 use Rattle.legacy_peripheral.proofs.handle_pass_key_input.Goals as goal
 
 pub returns-in_default : goal.returns-in_default

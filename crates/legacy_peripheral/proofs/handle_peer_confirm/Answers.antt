@@ -1,7 +1,6 @@
 -- `legacy_peripheral::handle_peer_confirm` meets its contract. Assumes nothing.
 use Rattle.protocol.specs.LegacyPeripheral.{handle_peer_confirm}
 use Rattle.handlers.proofs.Reading.{word_held}
-use borrow.Author.Rules.{rules}
 use Rattle.legacy_peripheral.proofs.handle_peer_confirm.Goals as goal
 
 pub returns-in_default : goal.returns-in_default

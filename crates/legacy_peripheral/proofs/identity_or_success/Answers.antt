@@ -1,6 +1,5 @@
 -- `legacy_peripheral::identity_or_success` meets its contract. Assumes nothing.
 use Rattle.protocol.specs.LegacyPeripheral.{await_identity_or_succeed}
-use borrow.Author.Rules.{rules}
 use Rattle.legacy_peripheral.proofs.identity_or_success.Goals as goal
 
 pub returns-then-identity_key : goal.returns-then-identity_key

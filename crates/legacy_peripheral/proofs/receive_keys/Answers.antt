@@ -1,6 +1,5 @@
 -- `legacy_peripheral::receive_keys` meets its contract. Assumes nothing.
 use Rattle.protocol.specs.LegacyPeripheral.{await_keys}
-use borrow.Author.Rules.{rules}
 use Rattle.legacy_peripheral.proofs.receive_keys.Goals as goal
 
 pub returns-then-encryption_key : goal.returns-then-encryption_key

@@ -2,7 +2,6 @@
 use Rattle.ops.proofs.Laws.{and_halt, run_bind}
 use Rattle.handlers.proofs.Outcoming.{ran_data_lem}
 use Rattle.protocol.specs.LegacyPeripheral.{send_all_keys}
-use borrow.Author.Rules.{rules}
 use Rattle.legacy_peripheral.proofs.send_all_keys.Goals as goal
 
 pub returns-in_default : goal.returns-in_default

@@ -6,7 +6,6 @@ use Rattle.protocol.specs.Handlers.{Handler, other_input}
 use Rattle.handlers.proofs.Outcoming.{no_command, on_command_lem, ran_of}
 use Rattle.types.specs.declared.types.Command.TheVariants as command
 use Rattle.protocol.specs.LegacyPeripheral.{handle_peer_confirm}
-use borrow.Author.Rules.{rules}
 use Rattle.legacy_peripheral.proofs.waiting_confirm.Goals as goal
 
 pub returns-then-is_command : goal.returns-then-is_command

@@ -5,7 +5,6 @@ use Rattle.machine.specs.declared.Machine.{Machine}
 use Rattle.protocol.specs.Handlers.{Handler}
 use Rattle.handlers.specs.Inputs.{oob_data_found}
 use Rattle.handlers.proofs.Outcoming.{no_oob_data, on_oob_data_lem, ran_of}
-use borrow.Author.Rules.{rules}
 use Rattle.legacy_peripheral.proofs.waiting_oob_data.Goals as goal
 
 pub returns-in_default : goal.returns-in_default

@@ -8,7 +8,6 @@ use Rattle.handlers.proofs.Outcoming.{no_command, no_link_encrypted, on_command_
 use Rattle.types.specs.declared.types.Command.TheVariants as command
 use mathlib.Core.Bool.{true}
 use Rattle.protocol.specs.LegacyPeripheral.{handle_pairing_request, link_encrypted}
-use borrow.Author.Rules.{rules}
 use Rattle.legacy_peripheral.proofs.waiting_request.Goals as goal
 
 pub returns-then-is_command : goal.returns-then-is_command

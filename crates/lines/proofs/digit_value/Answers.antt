@@ -2,7 +2,6 @@
 use native.Mathlib.Omega.{arith}
 use borrow.Author.Tests.{le-leb, lt-leb}
 use Rattle.lines.specs.Lines.{digit_of}
-use borrow.Author.Rules.{rules}
 use Rattle.lines.proofs.digit_value.Goals as goal
 
 pub returns-then-c-lt48 : goal.returns-then-c-lt48

@@ -10,7 +10,6 @@ use Rattle.octets.proofs.Lists.{whole}
 use Rattle.lines.specs.Lines.{octets_field, octets_in, size_of, number_in}
 use Rattle.lines.proofs.Digits.{sized, not_sized}
 use Rattle.lines.proofs.Values.{long_field}
-use borrow.Author.Rules.{rules}
 use Rattle.lines.proofs.field_count.Goals as goal
 
 pub returns-then-text-eq0 : goal.returns-then-text-eq0

@@ -1,5 +1,4 @@
 -- `lines::may_carry` meets its contract. Assumes nothing.
-use borrow.Author.Rules.{rules}
 use Rattle.lines.proofs.may_carry.Goals as goal
 
 pub returns-in-Event : goal.returns-in-Event

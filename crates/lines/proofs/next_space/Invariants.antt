@@ -1,11 +1,8 @@
 -- `lines::next_space` meets its contract. Assumes nothing.
-use mathlib.Core.Path.{◌≡◌, refl}
+use mathlib.Core.Path.{◌≡◌}
 use Prim.Native.Nat.{◌+◌, ◌-◌, ◌≤◌}
-use native.Mathlib.Omega.{arith}
 use lib.ListN.{length, drop}
-use borrow.Author.Tests.{ne_eqb}
 use Rattle.lines.specs.Lines.{space_in}
-use Rattle.lines.proofs.Fields.{space_here, space_behind, at_end_lem}
 use Rattle.lines.proofs.next_space.Given as goal
 
 abbrev pub invariant-loop-i : goal.invariant-loop-i

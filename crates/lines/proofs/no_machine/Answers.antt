@@ -1,6 +1,5 @@
 -- `lines::no_machine` meets its contract. Assumes nothing.
 use Rattle.record.specs.Record.{no_machine}
-use borrow.Author.Rules.{rules}
 use Rattle.lines.proofs.no_machine.Goals as goal
 
 pub returns : goal.returns

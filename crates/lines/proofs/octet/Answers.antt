@@ -4,7 +4,6 @@ use native.Mathlib.Omega.{arith}
 use Prim.Native.Nat.{◌<◌}
 use Rattle.lines.specs.Lines.{octet_of, digit_in}
 use Rattle.lines.proofs.Digits.{digit_below}
-use borrow.Author.Rules.{rules}
 use Rattle.lines.proofs.octet.Goals as goal
 
 pub returns-in_default : goal.returns-in_default

@@ -4,7 +4,6 @@ use native.Mathlib.Omega.{arith}
 use Rattle.lines.specs.Lines.{laid}
 use Rattle.lines.proofs.Digits.{some_none, octets_length, nothing_laid}
 use Rattle.lines.proofs.Values.{short_field, digits_field}
-use borrow.Author.Rules.{rules}
 use Rattle.lines.proofs.put_field.Goals as goal
 
 pub returns-then-text-lt2 : goal.returns-then-text-lt2

@@ -1,10 +1,9 @@
 -- `lines::put_octets` meets its contract. Assumes nothing.
 use mathlib.Core.Path.{sym, ap, ◌∙◌}
-use Prim.Native.Nat.{◌-◌, ◌≤◌}
+use Prim.Native.Nat.{◌-◌}
 use native.Mathlib.Omega.{arith}
 use Rattle.lines.specs.Lines.{digit_in}
-use Rattle.lines.proofs.Digits.{OctetsLaid, none_laid, read_bad, read_even, laid_more, laid_all, length_laid}
-use borrow.Author.Rules.{rules}
+use Rattle.lines.proofs.Digits.{none_laid, read_bad, read_even, laid_more, laid_all, length_laid}
 use Rattle.lines.proofs.put_octets.Goals as goal
 
 pub shape_of-out-in_default : goal.shape_of-out-in_default

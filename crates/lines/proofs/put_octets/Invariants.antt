@@ -1,10 +1,6 @@
 -- `lines::put_octets` meets its contract. Assumes nothing.
-use mathlib.Core.Path.{sym, ap, ◌∙◌}
 use Prim.Native.Nat.{◌-◌, ◌≤◌}
-use native.Mathlib.Omega.{arith}
-use Rattle.lines.specs.Lines.{digit_in}
-use Rattle.lines.proofs.Digits.{OctetsLaid, none_laid, read_bad, read_even, laid_more, laid_all, length_laid}
-use borrow.Author.Rules.{rules}
+use Rattle.lines.proofs.Digits.{OctetsLaid}
 use Rattle.lines.proofs.put_octets.Given as goal
 
 abbrev pub invariant-loop-i : goal.invariant-loop-i

@@ -2,7 +2,6 @@
 use mathlib.Core.Path.{sym, ap, ◌∙◌}
 use Rattle.lines.specs.Lines.{digit_in}
 use Rattle.lines.proofs.Digits.{wrong_length_lem, no_octets, no_octet, right_length, one_octet}
-use borrow.Author.Rules.{rules}
 use Rattle.lines.proofs.read_command.Goals as goal
 
 pub returns-then-text-ne2 : goal.returns-then-text-ne2

@@ -1,9 +1,7 @@
 -- `lines::read_fields` meets its contract. Assumes nothing.
 use mathlib.Core.Path.{sym, ap, ◌∙◌}
-use borrow.Author.Tests.{not-true, not-false}
 use Rattle.lines.specs.Lines.{octets_field, number_in, read_of, line_with}
 use Rattle.lines.proofs.Digits.{sized, not_sized}
-use borrow.Author.Rules.{rules}
 use Rattle.lines.proofs.read_fields.Goals as goal
 
 pub returns-in_default : goal.returns-in_default

@@ -10,7 +10,6 @@ use borrow.Author.Tests.{ne_eqb}
 use Rattle.octets.proofs.Lists.{whole}
 use Rattle.lines.specs.Lines.{command_of, link_of, event_alone, pass_key_of, oob_data_of, input_of}
 use Rattle.machine.specs.declared.Event.TheVariants.{PassKeyConfirm, PassKeyCancel}
-use borrow.Author.Rules.{rules}
 use Rattle.lines.proofs.read_input.Goals as goal
 
 -- the letter and the rest

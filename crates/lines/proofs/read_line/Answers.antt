@@ -2,7 +2,6 @@
 use mathlib.Core.Path.{subst}
 use Rattle.lines.specs.Lines.{read_of, laid, SplitAs}
 use Rattle.lines.proofs.Buffers.{roomy, no_payload_room, no_answers_room}
-use borrow.Author.Rules.{rules}
 use Rattle.lines.proofs.read_line.Goals as goal
 
 pub returns-then-payload-lt-MOST : goal.returns-then-payload-lt-MOST

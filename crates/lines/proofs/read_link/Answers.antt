@@ -7,7 +7,6 @@ use lib.ListN.{length}
 use borrow.Author.Tests.{ne_eqb}
 use Rattle.octets.proofs.Lists.{whole}
 use Rattle.lines.specs.Lines.{link_of}
-use borrow.Author.Rules.{rules}
 use Rattle.lines.proofs.read_link.Goals as goal
 
 not_one : (l : List ℕ) → (length l ≡ 1 → ⊥) → link_of l ≡ none

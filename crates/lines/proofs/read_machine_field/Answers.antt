@@ -8,7 +8,6 @@ use Rattle.record.specs.Record.{machine_of, read_of as record_read}
 use Rattle.lines.specs.Lines.{octets_in, number_in, try_machine}
 use Rattle.lines.proofs.Digits.{some_none, sized, not_sized, octets_length, laid_over}
 use Rattle.lines.proofs.Values.{no_record, try_record, no_machine_octets, machine_octets_lem, machine_length}
-use borrow.Author.Rules.{rules}
 use Rattle.lines.proofs.read_machine_field.Goals as goal
 
 pub returns-then-text-ne322 : goal.returns-then-text-ne322

@@ -6,7 +6,6 @@ use lib.ListN.{length, replicate}
 use lib.Seq.{take_all}
 use Rattle.lines.specs.Lines.{octets_in, number_in}
 use Rattle.lines.proofs.Digits.{some_none, sized, not_sized, octets_length, laid_over, wrong_length_lem, right_length, no_octets}
-use borrow.Author.Rules.{rules}
 use Rattle.lines.proofs.read_pass_key.Goals as goal
 
 pub returns-then-text-ne8 : goal.returns-then-text-ne8

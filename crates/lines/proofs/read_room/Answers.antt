@@ -1,11 +1,11 @@
 -- `lines::read_room` meets its contract. Assumes nothing.
-use mathlib.Core.Path.{◌≡◌, refl, ap, ◌∙◌}
-use Prim.Native.Nat.{◌-◌, ◌≤◌, ◌<◌}
+use mathlib.Core.Path.{refl, ap, ◌∙◌}
+use Prim.Native.Nat.{◌-◌}
 use native.Mathlib.Omega.{arith}
-use lib.ListN.{length, get_or, drop, drop_of_length-le}
+use lib.ListN.{length, get_or, drop_of_length-le}
 use borrow.Author.Tests.{le-leb, lt-leb}
 use Rattle.lines.specs.Lines.{decimal_from, room_of}
-use Rattle.lines.proofs.Values.{ten_to, three_digits, more_digits, decimal_more, decimal_below, decimal_above, room_in}
+use Rattle.lines.proofs.Values.{three_digits, more_digits, decimal_more, decimal_below, decimal_above, room_in}
 use Rattle.lines.proofs.read_room.Goals as goal
 
 pub returns-then-text-eq0 : goal.returns-then-text-eq0

@@ -1,12 +1,10 @@
 -- `lines::read_split` meets its contract. Assumes nothing.
 use mathlib.Core.Path.{◌≡◌, sym, ap, ◌∙◌}
 use mathlib.Core.Option.{some}
-use borrow.Author.Tests.{not-true, not-false}
 use Rattle.lines.specs.Lines.{StepLine, is_read, read_of, laid, payload_in, answers_in, line_at}
 use Rattle.lines.specs.declared.ReadLine.{ReadLine}
 use Rattle.lines.proofs.Digits.{some_none}
 use Rattle.lines.proofs.Buffers.{was_some, was_none, fields_laid}
-use borrow.Author.Rules.{rules}
 use Rattle.lines.proofs.read_split.Goals.{After-was_read, Else-not-was_read}
 use Rattle.lines.proofs.read_split.Goals as goal
 

@@ -4,7 +4,6 @@ use native.Mathlib.Omega.{arith}
 use lib.ListN.{length, drop}
 use Rattle.lines.specs.Lines.{line_at}
 use Rattle.lines.proofs.Fields.{next_field, last_field, stops_within, count_next, count_last, some_field, too_long, not_six, six}
-use borrow.Author.Rules.{rules}
 use Rattle.lines.proofs.split_line.Goals as goal
 
 pub returns-then-end-gt20000 : goal.returns-then-end-gt20000

@@ -1,5 +1,4 @@
 -- `lines::was_read` meets its contract. Assumes nothing.
-use borrow.Author.Rules.{rules}
 use Rattle.lines.proofs.was_read.Goals as goal
 
 pub returns-in-Ok : goal.returns-in-Ok

@@ -1,5 +1,4 @@
 -- `octet_steps::fresh_machine` meets its contract. Assumes nothing.
-use borrow.Author.Rules.{rules}
 use Rattle.machine.specs.Machine.{new_data}
 use Rattle.octet_steps.proofs.fresh_machine.Goals as goal
 

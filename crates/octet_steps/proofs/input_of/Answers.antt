@@ -1,6 +1,5 @@
 -- `octet_steps::input_of` meets its contract. Assumes nothing.
 use mathlib.Core.Path.{sym}
-use borrow.Author.Rules.{rules}
 use borrow.Author.Tests.{lt-ltb, le-ltb}
 use Rattle.octets.specs.Answer.{refused}
 use Rattle.types.proofs.Tables.{past_table}

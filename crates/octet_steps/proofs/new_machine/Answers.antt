@@ -1,5 +1,4 @@
 -- `octet_steps::new_machine` meets its contract. Assumes nothing.
-use borrow.Author.Rules.{rules}
 use Rattle.octet_steps.specs.Steps.{new_on}
 use Rattle.octet_steps.proofs.new_machine.Goals as goal
 

@@ -1,5 +1,4 @@
 -- `octet_steps::put_machine` meets its contract. Assumes nothing.
-use borrow.Author.Rules.{rules}
 use Rattle.octet_steps.proofs.put_machine.Goals as goal
 
 pub returns : goal.returns

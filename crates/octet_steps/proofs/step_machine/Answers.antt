@@ -1,6 +1,5 @@
 -- `octet_steps::step_machine` meets its contract. Assumes nothing.
 use mathlib.Core.Path.{◌≡◌}
-use borrow.Author.Rules.{rules}
 use Rattle.octets.specs.Answer.{accepted}
 use Rattle.record.specs.Record.{machine_of}
 use Rattle.octet_steps.specs.Steps.{step_on}

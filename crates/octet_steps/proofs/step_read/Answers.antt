@@ -1,5 +1,4 @@
 -- `octet_steps::step_read` meets its contract. Assumes nothing.
-use borrow.Author.Rules.{rules}
 use Rattle.octet_steps.proofs.step_read.Goals as goal
 
 pub returns-in-Ended : goal.returns-in-Ended

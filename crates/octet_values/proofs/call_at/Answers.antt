@@ -1,5 +1,4 @@
 -- `octet_values::call_at` meets its contract. Assumes nothing.
-use borrow.Author.Rules.{rules}
 use Rattle.octet_values.specs.Values.{call_on}
 use Rattle.octet_values.proofs.call_at.Goals as goal
 

@@ -1,6 +1,5 @@
 -- `octet_values::confirm_value` meets its contract. Assumes nothing.
 use borrow.Author.Tests.{eq-eqb, ne_eqb}
-use borrow.Author.Rules.{rules}
 use Rattle.octet_values.specs.Values.{c1_on, of_length}
 use Rattle.octet_values.proofs.confirm_value.Goals as goal
 

@@ -1,5 +1,4 @@
 -- `octet_values::count_calls` meets its contract. Assumes nothing.
-use borrow.Author.Rules.{rules}
 use Rattle.octet_values.specs.Values.{count_on}
 use Rattle.octet_values.proofs.count_calls.Goals as goal
 

@@ -1,6 +1,4 @@
 -- `octet_values::put` meets its contract. Assumes nothing.
-use mathlib.Core.Path.{sym}
-use borrow.Author.Rules.{rules}
 use borrow.Author.Tests.{eq-eqb, ne_eqb}
 use Rattle.octets.proofs.Parts.{over_all}
 use Rattle.octet_values.proofs.put.Goals as goal

@@ -1,6 +1,5 @@
 -- `octet_values::read_7` meets its contract. Assumes nothing.
 use mathlib.Core.Path.{sym}
-use borrow.Author.Rules.{rules}
 use Rattle.octets.proofs.Lists.{whole}
 use Rattle.octet_values.proofs.read_7.Goals as goal
 

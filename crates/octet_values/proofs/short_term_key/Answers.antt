@@ -1,5 +1,4 @@
 -- `octet_values::short_term_key` meets its contract. Assumes nothing.
-use borrow.Author.Rules.{rules}
 use Rattle.octet_values.specs.Values.{s1_on}
 use Rattle.octet_values.proofs.short_term_key.Goals as goal
 

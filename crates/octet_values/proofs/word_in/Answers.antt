@@ -3,7 +3,6 @@ use lib.Seq.{take_all}
 use native.Mathlib.Omega.{arith}
 use Prim.Native.Nat.{◌≤◌}
 use lib.ListN.{length}
-use borrow.Author.Rules.{rules}
 use borrow.Author.Tests.{eq-eqb, ne_eqb}
 use Rattle.octet_values.specs.Values.{word_in, of_length}
 use Rattle.octet_values.proofs.word_in.Goals as goal

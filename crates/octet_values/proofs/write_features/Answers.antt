@@ -3,7 +3,6 @@ use mathlib.Core.Path.{ap, ◌∙◌}
 use mathlib.Core.List.{List}
 use Prim.Native.Nat.{ℕ}
 use Rattle.octets.specs.Answer.{accepted}
-use borrow.Author.Rules.{rules}
 use Rattle.octet_values.specs.Values.{writes, write_features_on}
 use Rattle.octet_values.proofs.write_features.Goals as goal
 

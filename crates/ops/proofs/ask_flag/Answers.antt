@@ -2,7 +2,6 @@
 use mathlib.Core.Path.{sym, ap, ◌∙◌}
 use Rattle.answer.specs.Answers.{flag_answer}
 use Rattle.ops.proofs.Laws.{none_taken, flag_within, ran_stop}
-use borrow.Author.Rules.{rules}
 use Rattle.ops.proofs.ask_flag.Goals as goal
 
 pub returns-in_default : goal.returns-in_default

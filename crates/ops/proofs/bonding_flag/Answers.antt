@@ -1,6 +1,5 @@
 -- `ops::bonding_flag` meets its contract. Assumes nothing.
 use Rattle.ops.specs.Run.{answer_to}
-use borrow.Author.Rules.{rules}
 use Rattle.ops.proofs.bonding_flag.Goals as goal
 
 pub returns : goal.returns

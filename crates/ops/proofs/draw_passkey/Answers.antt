@@ -5,7 +5,6 @@ use Rattle.host.specs.declared.call.Call.TheVariants as call
 use Rattle.answer.specs.Answers.{pass_key_answer}
 use Rattle.ops.proofs.Laws.{none_taken, answer_within, ran_stop}
 use Rattle.ops.specs.Run.{answer_to}
-use borrow.Author.Rules.{rules}
 use Rattle.ops.proofs.draw_passkey.Goals as goal
 
 pub returns-in_default : goal.returns-in_default

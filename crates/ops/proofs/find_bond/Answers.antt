@@ -1,6 +1,5 @@
 -- `ops::find_bond` meets its contract. Assumes nothing.
 use Rattle.ops.specs.Run.{answer_to}
-use borrow.Author.Rules.{rules}
 use Rattle.ops.proofs.find_bond.Goals as goal
 
 pub returns : goal.returns

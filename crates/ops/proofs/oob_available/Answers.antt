@@ -1,6 +1,5 @@
 -- `ops::oob_available` meets its contract. Assumes nothing.
 use Rattle.ops.specs.Run.{answer_to}
-use borrow.Author.Rules.{rules}
 use Rattle.ops.proofs.oob_available.Goals as goal
 
 pub returns : goal.returns

@@ -4,7 +4,6 @@ use borrow.Author.Tests.{eq-eqb, ne_eqb}
 use Rattle.answer.specs.Answers.{verdict_answer}
 use Rattle.answer.proofs.Answering.{on_stop, stop_back}
 use Rattle.ops.proofs.Laws.{none_taken, verdict_within}
-use borrow.Author.Rules.{rules}
 use Rattle.ops.proofs.tell.Goals as goal
 
 pub behind-after-requires : goal.behind-after-requires

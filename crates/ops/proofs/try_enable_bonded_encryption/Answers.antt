@@ -5,7 +5,6 @@ use Rattle.answer.specs.Answers.{bonded_answer}
 use Rattle.ops.proofs.Laws.{none_taken, answer_within}
 use Rattle.answer.proofs.Answering.{stop_back}
 use Rattle.ops.specs.Run.{answer_to}
-use borrow.Author.Rules.{rules}
 use Rattle.ops.proofs.try_enable_bonded_encryption.Goals as goal
 
 pub behind-after-requires : goal.behind-after-requires

@@ -1,6 +1,5 @@
 -- `ops::try_send_connection_event` meets its contract. Assumes nothing.
 use Rattle.ops.specs.Run.{answer_to}
-use borrow.Author.Rules.{rules}
 use Rattle.ops.proofs.try_send_connection_event.Goals as goal
 
 pub returns : goal.returns

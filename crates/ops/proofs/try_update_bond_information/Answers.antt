@@ -1,6 +1,5 @@
 -- `ops::try_update_bond_information` meets its contract. Assumes nothing.
 use Rattle.ops.specs.Run.{answer_to}
-use borrow.Author.Rules.{rules}
 use Rattle.ops.proofs.try_update_bond_information.Goals as goal
 
 pub returns : goal.returns

@@ -1,5 +1,4 @@
 -- `pairing::handle_input` meets its contract. Assumes nothing.
-use borrow.Author.Rules.{rules}
 use Rattle.pairing.proofs.handle_input.Goals as goal
 
 pub returns-in-Central : goal.returns-in-Central

@@ -1,5 +1,4 @@
 -- `pairing::is_known` meets its contract. Assumes nothing.
-use borrow.Author.Rules.{rules}
 use Rattle.pairing.proofs.is_known.Goals as goal
 
 pub returns-in-Ok : goal.returns-in-Ok

@@ -7,7 +7,6 @@ use Rattle.protocol.specs.declared.Stepped.{Stepped}
 use Rattle.handlers.specs.declared.outcome.Finish.{Finish}
 use Rattle.handlers.specs.declared.outcome.Finish.TheVariants as finish
 use Rattle.pairing.specs.Report.{step_of, reported_by}
-use borrow.Author.Rules.{rules}
 use Rattle.pairing.proofs.report.Goals as goal
 
 pub returns-in-Ended : goal.returns-in-Ended

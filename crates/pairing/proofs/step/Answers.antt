@@ -1,13 +1,11 @@
 -- `pairing::step` meets its contract. Assumes nothing.
 use mathlib.Core.Path.{◌∙◌, ap, sym}
 use native.Mathlib.Omega.{arith}
-use borrow.Author.Tests.{not-true, not-false}
 use Rattle.protocol.specs.declared.Stepped.{Stepped}
 use Rattle.protocol.proofs.StepLaws.{refused_short, refused_code}
 use Rattle.handlers.specs.declared.outcome.Finished.{Finished}
 use Rattle.pairing.specs.Report.{step_of, reported}
 use Rattle.pairing.proofs.Stepping.{reported_step}
-use borrow.Author.Rules.{rules}
 use Rattle.pairing.proofs.step.Goals as goal
 
 pub returns-then-list-lt-LONGEST : goal.returns-then-list-lt-LONGEST

@@ -1,5 +1,4 @@
 -- `peripheral_helpers::add_identity_key` meets its contract. Assumes nothing.
-use borrow.Author.Rules.{rules}
 use Rattle.peripheral_helpers.proofs.add_identity_key.Goals as goal
 
 pub returns-then-named : goal.returns-then-named

@@ -1,5 +1,4 @@
 -- `peripheral_helpers::authentication` meets its contract. Assumes nothing.
-use borrow.Author.Rules.{rules}
 use Rattle.peripheral_helpers.proofs.authentication.Goals as goal
 
 pub returns-in-DisplayOnly : goal.returns-in-DisplayOnly

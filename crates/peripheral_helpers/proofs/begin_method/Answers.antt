@@ -1,6 +1,5 @@
 -- `peripheral_helpers::begin_method` meets its contract. Assumes nothing.
 use Rattle.protocol.specs.LegacyPeripheral.{begin_method}
-use borrow.Author.Rules.{rules}
 use Rattle.peripheral_helpers.proofs.begin_method.Goals as goal
 
 pub returns-in-OutOfBand : goal.returns-in-OutOfBand

@@ -1,6 +1,5 @@
 -- `peripheral_helpers::confirm_value` meets its contract. Assumes nothing.
 use Rattle.protocol.specs.LegacyPeripheral.{confirm_value}
-use borrow.Author.Rules.{rules}
 use Rattle.peripheral_helpers.proofs.confirm_value.Goals as goal
 
 pub returns : goal.returns

@@ -1,7 +1,6 @@
 -- `peripheral_helpers::handle_pairing_random` meets its contract. Assumes nothing.
 use Rattle.protocol.specs.LegacyPeripheral.{handle_pairing_random}
 use Rattle.handlers.proofs.Reading.{word_held}
-use borrow.Author.Rules.{rules}
 use Rattle.peripheral_helpers.proofs.handle_pairing_random.Goals as goal
 
 pub returns-in_default : goal.returns-in_default

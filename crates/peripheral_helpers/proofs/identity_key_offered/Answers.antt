@@ -6,11 +6,10 @@ use Rattle.host.specs.declared.call.Trace.{Trace}
 use Rattle.answer.specs.Answers.{stop_found, stop_of}
 use Rattle.answer.specs.declared.Stop.{Stop}
 use Rattle.answer.specs.declared.Stop.TheVariants.{Wanted, Refused}
-use Rattle.protocol.specs.Handlers.{Try, ok}
-use Rattle.ops.specs.Run.{Ran, ended, stopped, and_then}
+use Rattle.protocol.specs.Handlers.{Try}
+use Rattle.ops.specs.Run.{Ran, stopped, and_then}
 use Rattle.ops.specs.Asked.{ran_found}
 use Rattle.ops.proofs.Laws.{ran_stop}
-use borrow.Author.Rules.{rules}
 use Rattle.peripheral_helpers.proofs.identity_key_offered.Goals as goal
 
 -- without an answer to what the local IRK is, there is none to whether it is offered

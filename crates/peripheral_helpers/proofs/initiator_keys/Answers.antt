@@ -1,6 +1,5 @@
 -- `peripheral_helpers::initiator_keys` meets its contract. Assumes nothing.
 use Rattle.protocol.specs.LegacyPeripheral.{initiator_keys}
-use borrow.Author.Rules.{rules}
 use Rattle.peripheral_helpers.proofs.initiator_keys.Goals as goal
 
 pub returns : goal.returns

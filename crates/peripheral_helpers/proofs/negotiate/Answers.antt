@@ -2,7 +2,6 @@
 use Rattle.answer.proofs.Answering.{stop_back}
 use Rattle.ops.proofs.Laws.{run_bind, ran_stop}
 use Rattle.handlers.specs.Outcomes.{data_of}
-use borrow.Author.Rules.{rules}
 use Rattle.peripheral_helpers.proofs.negotiate.Goals as goal
 
 pub returns-in_default : goal.returns-in_default

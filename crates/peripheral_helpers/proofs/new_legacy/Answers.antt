@@ -1,5 +1,4 @@
 -- `peripheral_helpers::new_legacy` meets its contract. Assumes nothing.
-use borrow.Author.Rules.{rules}
 use Rattle.peripheral_helpers.proofs.new_legacy.Goals as goal
 
 pub returns-then-bonding : goal.returns-then-bonding

@@ -1,5 +1,4 @@
 -- `peripheral_helpers::no_answer` meets its contract. Assumes nothing.
-use borrow.Author.Rules.{rules}
 use Rattle.peripheral_helpers.proofs.no_answer.Goals as goal
 
 pub returns : goal.returns

@@ -3,7 +3,6 @@ use Rattle.protocol.specs.Handlers.{ok}
 use Rattle.ops.specs.Run.{ended}
 use Rattle.answer.proofs.Answering.{stop_back}
 use Rattle.ops.proofs.Laws.{and_attempt, ran_stop}
-use borrow.Author.Rules.{rules}
 use Rattle.peripheral_helpers.proofs.report_bond_lost.Goals as goal
 
 pub returns-in_default : goal.returns-in_default

@@ -1,6 +1,5 @@
 -- `peripheral_helpers::responder_keys` meets its contract. Assumes nothing.
 use Rattle.protocol.specs.LegacyPeripheral.{responder_keys}
-use borrow.Author.Rules.{rules}
 use Rattle.peripheral_helpers.proofs.responder_keys.Goals as goal
 
 pub returns : goal.returns

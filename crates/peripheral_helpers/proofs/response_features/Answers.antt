@@ -1,6 +1,5 @@
 -- `peripheral_helpers::response_features` meets its contract. Assumes nothing.
 use Rattle.protocol.specs.LegacyPeripheral.{response_features}
-use borrow.Author.Rules.{rules}
 use Rattle.peripheral_helpers.proofs.response_features.Goals as goal
 
 pub returns : goal.returns

@@ -1,7 +1,6 @@
 -- `peripheral_helpers::send_encryption_keys` meets its contract. Assumes nothing.
 use Rattle.protocol.specs.Handlers.{send_encryption_key}
 use Rattle.handlers.specs.Outcomes.{data_of}
-use borrow.Author.Rules.{rules}
 use Rattle.peripheral_helpers.proofs.send_encryption_keys.Goals as goal
 
 pub returns-then-encryption_key : goal.returns-then-encryption_key

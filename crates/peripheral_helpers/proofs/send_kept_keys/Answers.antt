@@ -3,7 +3,6 @@ use Rattle.ops.proofs.Laws.{and_halt}
 use Rattle.handlers.proofs.Outcoming.{data_halted}
 use Rattle.handlers.proofs.Keying.{keys_sent}
 use Rattle.handlers.specs.Outcomes.{data_of}
-use borrow.Author.Rules.{rules}
 use Rattle.peripheral_helpers.proofs.send_kept_keys.Goals as goal
 
 pub returns-in_default : goal.returns-in_default

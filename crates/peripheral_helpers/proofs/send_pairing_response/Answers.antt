@@ -1,7 +1,6 @@
 -- `peripheral_helpers::send_pairing_response` meets its contract. Assumes nothing.
 use Rattle.ops.proofs.Laws.{and_halt}
 use Rattle.handlers.proofs.Outcoming.{outcome_halted}
-use borrow.Author.Rules.{rules}
 use Rattle.peripheral_helpers.proofs.send_pairing_response.Goals as goal
 
 pub returns-in_default : goal.returns-in_default

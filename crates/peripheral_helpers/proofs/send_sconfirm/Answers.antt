@@ -3,7 +3,6 @@ use mathlib.Core.Path.{refl}
 use Rattle.answer.proofs.Answering.{stop_back}
 use Rattle.ops.proofs.Laws.{and_halt, ran_stop}
 use Rattle.protocol.specs.LegacyPeripheral.{send_sconfirm}
-use borrow.Author.Rules.{rules}
 use Rattle.peripheral_helpers.proofs.send_sconfirm.Goals as goal
 
 pub returns-in_default : goal.returns-in_default

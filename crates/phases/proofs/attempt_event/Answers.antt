@@ -1,7 +1,6 @@
 -- `phases::attempt_event` meets its contract. Assumes nothing.
 use Rattle.ops.specs.Run.{ended}
 use Rattle.ops.proofs.Laws.{and_attempt}
-use borrow.Author.Rules.{rules}
 use Rattle.phases.proofs.attempt_event.Goals as goal
 
 pub returns-in_default : goal.returns-in_default

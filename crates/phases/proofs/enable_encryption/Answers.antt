@@ -2,7 +2,6 @@
 use Rattle.ops.proofs.Laws.{and_halt}
 use Rattle.protocol.specs.Handlers.{enable_encryption}
 use Rattle.handlers.proofs.Outcoming.{outcome_halted}
-use borrow.Author.Rules.{rules}
 use Rattle.phases.proofs.enable_encryption.Goals as goal
 
 pub returns-in_default : goal.returns-in_default

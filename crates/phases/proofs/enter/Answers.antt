@@ -6,7 +6,6 @@ use Rattle.ops.specs.Run.{run}
 use Rattle.handlers.specs.Outcomes.{finished_of}
 use Rattle.phases.proofs.Entering.{no_call_lem}
 use borrow.Enum.Refused.{opened}
-use borrow.Author.Rules.{rules}
 use Rattle.phases.proofs.enter.Goals as goal
 
 pub returns-in-Error : goal.returns-in-Error

@@ -3,7 +3,6 @@ use Rattle.bond.specs.declared.OptionBond.TheVariants as option
 use Rattle.protocol.specs.Handlers.{complete}
 use Rattle.ops.specs.Run.{run}
 use Rattle.ops.proofs.Laws.{and_attempt}
-use borrow.Author.Rules.{rules}
 use Rattle.phases.proofs.enter_bonded.Goals as goal
 
 pub returns-in_default : goal.returns-in_default

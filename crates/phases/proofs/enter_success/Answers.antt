@@ -5,7 +5,6 @@ use mathlib.Core.Bool.{Bool}
 use Rattle.protocol.specs.Handlers.{enter_bonded, enter_success}
 use Rattle.ops.specs.Run.{run}
 use Rattle.handlers.specs.Outcomes.{finished_of}
-use borrow.Author.Rules.{rules}
 use Rattle.phases.proofs.enter_success.Goals as goal
 
 pub returns-in_default : goal.returns-in_default

@@ -1,7 +1,6 @@
 -- `phases::handle_encryption_information` meets its contract. Assumes nothing.
 use Rattle.protocol.specs.Handlers.{handle_encryption_information}
 use Rattle.handlers.proofs.Reading.{word_held}
-use borrow.Author.Rules.{rules}
 use Rattle.phases.proofs.handle_encryption_information.Goals as goal
 
 pub returns-in_default : goal.returns-in_default

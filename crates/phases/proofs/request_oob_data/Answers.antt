@@ -1,7 +1,6 @@
 -- `phases::request_oob_data` meets its contract. Assumes nothing.
 use Rattle.ops.proofs.Laws.{and_halt}
 use Rattle.handlers.proofs.Outcoming.{outcome_halted}
-use borrow.Author.Rules.{rules}
 use Rattle.phases.proofs.request_oob_data.Goals as goal
 
 pub returns-in_default : goal.returns-in_default

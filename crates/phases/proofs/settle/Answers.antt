@@ -1,5 +1,4 @@
 -- `phases::settle` meets its contract. Assumes nothing.
-use borrow.Author.Rules.{rules}
 use Rattle.phases.proofs.settle.Goals as goal
 
 pub returns-in-Next : goal.returns-in-Next

@@ -1,7 +1,6 @@
 -- `phases::store_confirm_bytes` meets its contract. Assumes nothing.
 use Rattle.protocol.specs.Handlers.{store_confirm_bytes}
 use Rattle.handlers.proofs.Reading.{word_held}
-use borrow.Author.Rules.{rules}
 use Rattle.phases.proofs.store_confirm_bytes.Goals as goal
 
 pub returns-in_default : goal.returns-in_default

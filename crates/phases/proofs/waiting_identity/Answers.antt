@@ -6,7 +6,6 @@ use Rattle.protocol.specs.Handlers.{Handler, other_input, handle_identity_inform
 use Rattle.ops.specs.Run.{run}
 use Rattle.handlers.specs.Outcomes.{outcome_of}
 use Rattle.handlers.proofs.Outcoming.{on_command_lem, no_command}
-use borrow.Author.Rules.{rules}
 use Rattle.phases.proofs.waiting_identity.Goals as goal
 
 pub returns-then-is_command : goal.returns-then-is_command

@@ -4,7 +4,6 @@ use mathlib.Core.Path.{◌≡◌, refl}
 use borrow.Enum.Refused.{opened}
 use types.Run.{OneOf, miss}
 use denote.Enum.Declared.{tag_of}
-use borrow.Author.Rules.{rules}
 use Rattle.machine.specs.Machine.{zero_word}
 use Rattle.machine.specs.declared.Phase.TheVariants as phase
 use Rattle.machine.specs.declared.Phase.{Phase}

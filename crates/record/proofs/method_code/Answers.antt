@@ -1,5 +1,4 @@
 -- `record::method_code` meets its contract. Assumes nothing.
-use borrow.Author.Rules.{rules}
 use Rattle.record.proofs.method_code.Goals as goal
 
 pub returns-in-JustWorks : goal.returns-in-JustWorks

@@ -2,7 +2,6 @@
 use mathlib.Core.List.{[], ◌∷◌, ◌++◌}
 use mathlib.Core.Path.{◌≡◌, refl}
 use lib.ListN.{get_or}
-use borrow.Author.Rules.{rules}
 use Rattle.bond.specs.Bond.{failed_body}
 use Rattle.bond.specs.declared.Error.TheVariants.{Security, InvalidState, InvalidValue, OutOfMemory, Host}
 use Rattle.bond.specs.declared.Error.{Error}

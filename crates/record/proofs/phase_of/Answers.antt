@@ -1,6 +1,5 @@
 -- `record::phase_of` meets its contract. Assumes nothing.
 use mathlib.Core.Path.{sym}
-use borrow.Author.Rules.{rules}
 use Rattle.octets.specs.Answer.{refused}
 use Rattle.types.proofs.Tables.{past_table}
 use Rattle.record.specs.Record.{phases_with, phase_of}

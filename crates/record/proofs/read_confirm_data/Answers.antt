@@ -1,5 +1,4 @@
 -- `record::read_confirm_data` meets its contract. Assumes nothing.
-use borrow.Author.Rules.{rules}
 use Rattle.record.proofs.read_confirm_data.Goals as goal
 
 pub returns : goal.returns

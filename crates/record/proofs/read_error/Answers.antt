@@ -1,6 +1,5 @@
 -- `record::read_error` meets its contract. Assumes nothing.
 use mathlib.Core.Path.{sym, ap, ◌∙◌}
-use borrow.Author.Rules.{rules}
 use Rattle.octets.specs.Answer.{refused}
 use Rattle.types.proofs.Tables.{past_table_from_one}
 use Rattle.record.specs.Record.{errors_with, try_reason}

@@ -4,7 +4,6 @@ use Prim.Native.Nat.{◌+◌}
 use native.Mathlib.Nat.{add-zero}
 use native.Mathlib.Omega.{arith}
 use lib.ListN.{get_or}
-use borrow.Author.Rules.{rules}
 use Rattle.octets.specs.Answer.{refused, accepted}
 use Rattle.octets.proofs.Lists.{element_of_part}
 use Rattle.types.specs.Types.{oob_of, oob_answer}

@@ -1,6 +1,5 @@
 -- `record::read_option_bond` meets its contract. Assumes nothing.
 use mathlib.Core.Path.{sym, ap, ◌∙◌}
-use borrow.Author.Rules.{rules}
 use Rattle.octets.specs.Answer.{refused}
 use Rattle.types.proofs.Tables.{past_table}
 use Rattle.bond.specs.Bond.{try_bond}

@@ -1,7 +1,5 @@
 -- `record::read_pairing_data` meets its contract. Assumes nothing.
 use mathlib.Core.Path.{sym, ap, ◌∙◌}
-use native.Mathlib.Omega.{arith}
-use borrow.Author.Rules.{rules}
 use Rattle.record.specs.Record.{pairing_data_of, try_features, try_method, try_option_bond}
 use Rattle.record.proofs.read_pairing_data.Goals as goal
 

@@ -1,6 +1,5 @@
 -- `record::read_phase` meets its contract. Assumes nothing.
 use native.Mathlib.Omega.{arith}
-use borrow.Author.Rules.{rules}
 use Rattle.octets.proofs.Lists.{reads_from_lem}
 use Rattle.record.proofs.read_phase.Goals as goal
 

@@ -1,7 +1,6 @@
 -- `record::read_seven` meets its contract. Assumes nothing.
 use mathlib.Core.Path.{sym}
 use native.Mathlib.Omega.{arith}
-use borrow.Author.Rules.{rules}
 use Rattle.octets.proofs.Lists.{reads_at}
 use Rattle.record.proofs.read_seven.Goals as goal
 

@@ -1,5 +1,4 @@
 -- `record::refuse` meets its contract. Assumes nothing.
-use borrow.Author.Rules.{rules}
 use Rattle.record.specs.Record.{no_machine}
 use Rattle.record.proofs.refuse.Goals as goal
 

@@ -1,7 +1,6 @@
 -- `record::write_bond` meets its contract. Assumes nothing.
 use mathlib.Core.List.{[], ◌∷◌}
 use native.Mathlib.Omega.{arith}
-use borrow.Author.Rules.{rules}
 use Rattle.bond.specs.Bond.{flag_code, bond_present, bond_or_zeros}
 use Rattle.record.specs.Record.{method_code}
 use Rattle.record.proofs.Sizes.{bond_length}

@@ -1,6 +1,5 @@
 -- `record::write_sides` meets its contract. Assumes nothing.
 use native.Mathlib.Omega.{arith}
-use borrow.Author.Rules.{rules}
 use Rattle.types.specs.Types.{feature_octets}
 use Rattle.bond.specs.Bond.{address_octets}
 use Rattle.record.proofs.Sizes.{address_length, features_length}

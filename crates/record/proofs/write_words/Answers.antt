@@ -1,6 +1,5 @@
 -- `record::write_words` meets its contract. Assumes nothing.
 use native.Mathlib.Omega.{arith}
-use borrow.Author.Rules.{rules}
 use Rattle.octets.specs.Octets.{octets_of}
 use Rattle.octets.proofs.Octets.{word_length}
 use Rattle.record.proofs.Pieces.{four}

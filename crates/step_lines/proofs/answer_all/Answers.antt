@@ -1,7 +1,6 @@
 -- `step_lines::answer_all` meets its contract. Assumes nothing.
-use mathlib.Core.Path.{◌≡◌, refl}
+use mathlib.Core.Path.{◌≡◌}
 use lib.ListN.{length}
-use borrow.Author.Rules.{rules}
 use Rattle.step_lines.proofs.answer_all.Goals as goal
 
 -- the buffers keep their length

@@ -1,7 +1,4 @@
 -- `step_lines::answer_all` meets its contract. Assumes nothing.
-use mathlib.Core.Path.{◌≡◌, refl}
-use lib.ListN.{length}
-use borrow.Author.Rules.{rules}
 use Rattle.step_lines.proofs.answer_all.Given as goal
 
 abbrev pub decreases-loop-turns : goal.decreases-loop-turns

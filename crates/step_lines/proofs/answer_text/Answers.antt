@@ -1,9 +1,7 @@
 -- `step_lines::answer_text` meets its contract. Assumes nothing.
 use Prim.Native.Nat.{◌-◌, ◌≤◌}
-use mathlib.Core.Path.{◌≡◌, refl}
-use native.Mathlib.Omega.{arith}
+use mathlib.Core.Path.{◌≡◌}
 use lib.ListN.{length}
-use borrow.Author.Rules.{rules}
 use Rattle.step_lines.proofs.answer_text.Goals as goal
 
 -- both buffers keep their length

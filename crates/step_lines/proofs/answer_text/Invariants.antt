@@ -1,9 +1,6 @@
 -- `step_lines::answer_text` meets its contract. Assumes nothing.
-use Prim.Native.Nat.{◌-◌, ◌≤◌}
-use mathlib.Core.Path.{◌≡◌, refl}
-use native.Mathlib.Omega.{arith}
+use Prim.Native.Nat.{◌-◌}
 use lib.ListN.{length}
-use borrow.Author.Rules.{rules}
 use Rattle.step_lines.proofs.answer_text.Given as goal
 
 abbrev pub decreases-loop-i : goal.decreases-loop-i

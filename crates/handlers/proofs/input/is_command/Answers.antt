@@ -1,5 +1,4 @@
 -- `handlers::input::is_command` meets its contract. Assumes nothing.
-use borrow.Author.Rules.{rules}
 use Rattle.handlers.proofs.input.is_command.Goals as goal
 
 pub returns-in-Command : goal.returns-in-Command

@@ -1,5 +1,4 @@
 -- `handlers::input::link_encrypted` meets its contract. Assumes nothing.
-use borrow.Author.Rules.{rules}
 use Rattle.handlers.proofs.input.link_encrypted.Goals as goal
 
 pub returns-in-LinkEncryptedResult : goal.returns-in-LinkEncryptedResult

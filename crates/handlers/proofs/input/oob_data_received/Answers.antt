@@ -1,5 +1,4 @@
 -- `handlers::input::oob_data_received` meets its contract. Assumes nothing.
-use borrow.Author.Rules.{rules}
 use Rattle.handlers.proofs.input.oob_data_received.Goals as goal
 
 pub returns-in-OobDataReceived : goal.returns-in-OobDataReceived

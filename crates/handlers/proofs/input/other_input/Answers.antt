@@ -4,7 +4,6 @@ use borrow.Author.Tests.{eq-eqb, ne_eqb}
 use Rattle.types.specs.Types.{command_code}
 use Rattle.types.specs.declared.types.Command.TheVariants as command
 use Rattle.protocol.specs.Handlers.{other_input}
-use borrow.Author.Rules.{rules}
 use Rattle.handlers.proofs.input.other_input.Goals as goal
 
 pub returns-then-code-into_u8 : goal.returns-then-code-into_u8

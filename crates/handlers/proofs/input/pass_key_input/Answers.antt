@@ -1,5 +1,4 @@
 -- `handlers::input::pass_key_input` meets its contract. Assumes nothing.
-use borrow.Author.Rules.{rules}
 use Rattle.handlers.proofs.input.pass_key_input.Goals as goal
 
 pub returns-in-PassKeyInput : goal.returns-in-PassKeyInput

@@ -1,7 +1,6 @@
 -- `handlers::keys::draw_keys` meets its contract. Assumes nothing.
 use Rattle.answer.proofs.Answering.{stop_back}
 use Rattle.ops.proofs.Laws.{ran_stop}
-use borrow.Author.Rules.{rules}
 use Rattle.handlers.proofs.keys.draw_keys.Goals as goal
 
 pub returns-in_default : goal.returns-in_default

@@ -1,7 +1,6 @@
 -- `handlers::keys::send_encryption_packets` meets its contract. Assumes nothing.
 use Rattle.ops.proofs.Laws.{and_halt}
 use Rattle.handlers.proofs.Outcoming.{sending}
-use borrow.Author.Rules.{rules}
 use Rattle.handlers.proofs.keys.send_encryption_packets.Goals as goal
 
 pub returns-in_default : goal.returns-in_default

@@ -1,6 +1,5 @@
 -- `handlers::keys::send_identity_keys` meets its contract. Assumes nothing.
 use Rattle.protocol.specs.Handlers.{send_identity_key}
-use borrow.Author.Rules.{rules}
 use Rattle.handlers.proofs.keys.send_identity_keys.Goals as goal
 
 pub returns-then-identity_key : goal.returns-then-identity_key

@@ -3,7 +3,6 @@ use Rattle.answer.proofs.Answering.{stop_back}
 use Rattle.ops.proofs.Laws.{and_halt, ran_stop}
 use Rattle.handlers.proofs.Outcoming.{sending}
 use Rattle.protocol.specs.Handlers.{send_identity_key}
-use borrow.Author.Rules.{rules}
 use Rattle.handlers.proofs.keys.send_identity_packets.Goals as goal
 
 pub returns-in_default : goal.returns-in_default

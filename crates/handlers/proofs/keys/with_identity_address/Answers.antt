@@ -1,6 +1,5 @@
 -- `handlers::keys::with_identity_address` meets its contract. Assumes nothing.
 use Rattle.protocol.specs.Handlers.{with_identity_address}
-use borrow.Author.Rules.{rules}
 use Rattle.handlers.proofs.keys.with_identity_address.Goals as goal
 
 pub returns-in_default : goal.returns-in_default

@@ -1,6 +1,5 @@
 -- `handlers::keys::with_irk` meets its contract. Assumes nothing.
 use Rattle.protocol.specs.Handlers.{with_irk}
-use borrow.Author.Rules.{rules}
 use Rattle.handlers.proofs.keys.with_irk.Goals as goal
 
 pub returns-in_default : goal.returns-in_default

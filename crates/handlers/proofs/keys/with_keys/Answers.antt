@@ -4,7 +4,6 @@ use mathlib.Core.Path.{◌≡◌, ap, ◌∙◌}
 use Rattle.crypto.specs.Crypto.{masked_of}
 use Rattle.crypto.specs.declared.crypto.LongTermKey.{LongTermKey}
 use Rattle.protocol.specs.Handlers.{with_keys}
-use borrow.Author.Rules.{rules}
 use Rattle.handlers.proofs.keys.with_keys.Goals as goal
 
 -- cut to a size that is known by another name

@@ -5,7 +5,6 @@ use borrow.Author.Tests.{eq-eqb, ne_eqb}
 use Rattle.protocol.specs.Handlers.{features_in}
 use Rattle.handlers.proofs.Features.{not_decoded, six}
 use Rattle.handlers.specs.Payloads.{or_error}
-use borrow.Author.Rules.{rules}
 use Rattle.handlers.proofs.payload.read_features.Goals as goal
 
 pub returns-then-payload-ne6 : goal.returns-then-payload-ne6

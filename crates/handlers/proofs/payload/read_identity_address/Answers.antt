@@ -2,7 +2,6 @@
 use borrow.Author.Tests.{le-ltb, lt-ltb}
 use Rattle.protocol.specs.Handlers.{address_in}
 use Rattle.handlers.specs.Payloads.{or_error}
-use borrow.Author.Rules.{rules}
 use Rattle.handlers.proofs.payload.read_identity_address.Goals as goal
 
 pub returns-then-payload-lt7 : goal.returns-then-payload-lt7

@@ -4,7 +4,6 @@ use lib.Seq.{take_all}
 use borrow.Author.Tests.{eq-eqb, ne_eqb}
 use Rattle.protocol.specs.Handlers.{word_in}
 use Rattle.handlers.specs.Payloads.{or_error}
-use borrow.Author.Rules.{rules}
 use Rattle.handlers.proofs.payload.read_payload_word.Goals as goal
 
 pub returns-then-payload-ne16 : goal.returns-then-payload-ne16

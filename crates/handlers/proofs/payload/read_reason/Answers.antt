@@ -1,7 +1,6 @@
 -- `handlers::payload::read_reason` meets its contract. Assumes nothing.
 use mathlib.Core.Path.{sym}
 use Rattle.handlers.proofs.Reasons.{no_reason, first_reason}
-use borrow.Author.Rules.{rules}
 use Rattle.handlers.proofs.payload.read_reason.Goals as goal
 
 pub returns-then-payload-eq0 : goal.returns-then-payload-eq0

@@ -1,5 +1,4 @@
 -- `handlers::payload::response_octets` meets its contract. Assumes nothing.
-use borrow.Author.Rules.{rules}
 use Rattle.handlers.proofs.payload.response_octets.Goals as goal
 
 pub returns : goal.returns

@@ -1,5 +1,4 @@
 -- `machine::ConfirmPhaseData::kept_by` meets its contract. Assumes nothing.
-use borrow.Author.Rules.{rules}
 use Rattle.machine.proofs.ConfirmPhaseData.kept_by.Goals as goal
 
 pub returns-in-WaitingPairingRequest : goal.returns-in-WaitingPairingRequest

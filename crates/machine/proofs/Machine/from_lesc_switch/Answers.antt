@@ -1,5 +1,4 @@
 -- `machine::Machine::from_lesc_switch` meets its contract. Assumes nothing.
-use borrow.Author.Rules.{rules}
 use Rattle.machine.specs.Machine.{lesc_switch}
 use Rattle.machine.proofs.Machine.from_lesc_switch.Goals as goal
 

@@ -1,5 +1,4 @@
 -- `machine::Machine::new` meets its contract. Assumes nothing.
-use borrow.Author.Rules.{rules}
 use Rattle.machine.specs.Machine.{new_machine}
 use Rattle.machine.proofs.Machine.new.Goals as goal
 

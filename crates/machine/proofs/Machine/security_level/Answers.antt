@@ -1,5 +1,4 @@
 -- `machine::Machine::security_level` meets its contract. Assumes nothing.
-use borrow.Author.Rules.{rules}
 use Rattle.machine.specs.Machine.{security_level_of}
 use Rattle.machine.proofs.Machine.security_level.Goals as goal
 

@@ -1,5 +1,4 @@
 -- `machine::PairingData::new` meets its contract. Assumes nothing.
-use borrow.Author.Rules.{rules}
 use Rattle.machine.specs.Machine.{new_data}
 use Rattle.machine.proofs.PairingData.new.Goals as goal
 

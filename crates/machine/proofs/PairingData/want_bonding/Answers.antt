@@ -1,6 +1,5 @@
 -- `machine::PairingData::want_bonding` meets its contract. Assumes nothing.
 use mathlib.Core.Path.{◌≡◌, sym, ◌∙◌}
-use borrow.Author.Rules.{rules}
 use Rattle.types.specs.Types.{bonding_of}
 use Rattle.types.specs.declared.types.BondingFlag.TheVariants.{NoBonding, Bonding}
 use Rattle.machine.specs.Machine.{want_bonding}

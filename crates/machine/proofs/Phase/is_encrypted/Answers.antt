@@ -1,5 +1,4 @@
 -- `machine::Phase::is_encrypted` meets its contract. Assumes nothing.
-use borrow.Author.Rules.{rules}
 use Rattle.machine.proofs.Phase.is_encrypted.Goals as goal
 
 pub returns-in-WaitingPairingRequest : goal.returns-in-WaitingPairingRequest

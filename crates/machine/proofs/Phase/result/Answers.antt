@@ -1,5 +1,4 @@
 -- `machine::Phase::result` meets its contract. Assumes nothing.
-use borrow.Author.Rules.{rules}
 use Rattle.machine.proofs.Phase.result.Goals as goal
 
 pub returns-in-Error : goal.returns-in-Error

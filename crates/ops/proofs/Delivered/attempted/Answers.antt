@@ -1,5 +1,4 @@
 -- `ops::Delivered::attempted` meets its contract. Assumes nothing.
-use borrow.Author.Rules.{rules}
 use Rattle.ops.proofs.Delivered.attempted.Goals as goal
 
 pub returns-in-Stop : goal.returns-in-Stop

@@ -1,5 +1,4 @@
 -- `ops::Delivered::halt` meets its contract. Assumes nothing.
-use borrow.Author.Rules.{rules}
 use Rattle.ops.proofs.Delivered.halt.Goals as goal
 
 pub returns-in-Yes : goal.returns-in-Yes

@@ -1,5 +1,4 @@
 -- `ops::TakenAddress::halt` meets its contract. Assumes nothing.
-use borrow.Author.Rules.{rules}
 use Rattle.ops.proofs.TakenAddress.halt.Goals as goal
 
 pub returns-in-Ok : goal.returns-in-Ok

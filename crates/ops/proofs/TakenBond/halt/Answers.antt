@@ -1,5 +1,4 @@
 -- `ops::TakenBond::halt` meets its contract. Assumes nothing.
-use borrow.Author.Rules.{rules}
 use Rattle.ops.proofs.TakenBond.halt.Goals as goal
 
 pub returns-in-Ok : goal.returns-in-Ok

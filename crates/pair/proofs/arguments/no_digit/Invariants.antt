@@ -1,5 +1,5 @@
 -- `pair::arguments::no_digit` meets its contract. Assumes nothing.
-use Rattle.std.proofs.Common.{◌-◌, ◌≤◌, length, rules}
+use Rattle.std.proofs.Common.{◌-◌, ◌≤◌, length}
 use Rattle.pair.proofs.arguments.no_digit.Given as goal
 
 abbrev pub invariant-loop-i : goal.invariant-loop-i

@@ -1,5 +1,5 @@
 -- `pair::arguments::put_digits` meets its contract. Assumes nothing.
-use Rattle.std.proofs.Common.{◌≡◌, ◌-◌, ◌≤◌, length, rules}
+use Rattle.std.proofs.Common.{◌≡◌, ◌-◌, ◌≤◌, length}
 use Rattle.pair.proofs.arguments.put_digits.Given as goal
 
 abbrev pub invariant-loop-i : goal.invariant-loop-i

@@ -1,5 +1,5 @@
 -- `pair::buffer::same` meets its contract. Assumes nothing.
-use Rattle.std.proofs.Common.{◌-◌, ◌≤◌, length, rules}
+use Rattle.std.proofs.Common.{◌-◌, ◌≤◌, length}
 use Rattle.pair.proofs.buffer.same.Given as goal
 
 abbrev pub invariant-loop-i : goal.invariant-loop-i

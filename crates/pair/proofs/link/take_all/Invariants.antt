@@ -1,5 +1,5 @@
 -- `pair::link::take_all` meets its contract. Assumes nothing.
-use Rattle.std.proofs.Common.{◌≡◌, ◌-◌, ◌≤◌, length, rules}
+use Rattle.std.proofs.Common.{◌≡◌, ◌-◌, ◌≤◌, length}
 use Rattle.pair.proofs.link.take_all.Given as goal
 
 abbrev pub invariant-loop-n : goal.invariant-loop-n

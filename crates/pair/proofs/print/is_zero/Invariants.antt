@@ -1,5 +1,5 @@
 -- `pair::print::is_zero` meets its contract. Assumes nothing.
-use Rattle.std.proofs.Common.{◌-◌, ◌≤◌, length, rules}
+use Rattle.std.proofs.Common.{◌-◌, ◌≤◌, length}
 use Rattle.pair.proofs.print.is_zero.Given as goal
 
 abbrev pub invariant-loop-i : goal.invariant-loop-i

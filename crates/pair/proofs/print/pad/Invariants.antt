@@ -1,5 +1,5 @@
 -- `pair::print::pad` meets its contract. Assumes nothing.
-use Rattle.std.proofs.Common.{◌-◌, rules}
+use Rattle.std.proofs.Common.{◌-◌}
 use Rattle.pair.proofs.print.pad.Given as goal
 
 abbrev pub invariant-loop-i : goal.invariant-loop-i

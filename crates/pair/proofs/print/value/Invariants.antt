@@ -1,5 +1,5 @@
 -- `pair::print::value` meets its contract. Assumes nothing.
-use Rattle.std.proofs.Common.{◌≤◌, length, rules}
+use Rattle.std.proofs.Common.{◌≤◌, length}
 use Rattle.pair.proofs.print.value.Given as goal
 
 abbrev pub invariant-loop-i : goal.invariant-loop-i

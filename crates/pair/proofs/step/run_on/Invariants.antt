@@ -1,5 +1,5 @@
 -- `pair::step::run_on` meets its contract. Assumes nothing.
-use Rattle.std.proofs.Common.{◌≡◌, ◌-◌, ◌≤◌, length, rules}
+use Rattle.std.proofs.Common.{◌≡◌, ◌-◌, ◌≤◌, length}
 use Rattle.pair.proofs.step.run_on.Given as goal
 
 abbrev pub invariant-loop-index : goal.invariant-loop-index

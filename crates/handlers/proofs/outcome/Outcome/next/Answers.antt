@@ -1,5 +1,4 @@
 -- `handlers::outcome::Outcome::next` meets its contract. Assumes nothing.
-use borrow.Author.Rules.{rules}
 use Rattle.handlers.proofs.outcome.Outcome.next.Goals as goal
 
 pub returns : goal.returns
