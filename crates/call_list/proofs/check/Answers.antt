@@ -36,8 +36,9 @@ loop-at-preserved c =
     let n = w.number in (
       seen_more w (omega arith) c.if-count-index.kind c.if-count-index.body (sym c.body_length.ensures ∙ ap body_size c.in-Octets.is) (omega arith)
           (elim c.if-count-index.branch [
-            then-count-index t ↦ same_call t.kind-is t.body-is ∙ last_here w.done _ i (omega (arith, t.if-count-index.true))
-          | else-count-index t ↦ same_call t.kind-is t.body-is ∙ w.here ∙ not_last w.done _ i (λ e. t.if-count-index.false (omega arith)) ]),
+            | then-count-index t ↦ same_call t.kind-is t.body-is ∙ last_here w.done _ i (omega (arith, t.if-count-index.true))
+            | else-count-index t ↦ same_call t.kind-is t.body-is ∙ w.here ∙ not_last w.done _ i (λ e. t.if-count-index.false (omega arith))
+          ]),
       refl,
     )
 

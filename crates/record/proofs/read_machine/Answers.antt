@@ -54,7 +54,7 @@ returns-then-is_record_of c =
     let phase : phase_at c.args.role l ≡ accepted c.in-Ok.phase = sym c.read_phase.ensures ∙ ap try_phase c.in-Ok.is in
     let pairing : pairing_data_of l ≡ accepted c.in-Ok-found.d = sym c.read_pairing_data-found.ensures ∙ ap try_pairing_data c.in-Ok-found.is in
     let kept : c.kept_by-confirm_data.result ≡ kept_by c.in-Ok.phase (confirm_data_of l) =
-        c.kept_by-confirm_data.ensures ∙ ap (kept_by c.in-Ok.phase) c.read_confirm_data.ensures in
+    c.kept_by-confirm_data.ensures ∙ ap (kept_by c.in-Ok.phase) c.read_confirm_data.ensures in
     rw (kept, with_data c.args.role l c.in-Ok.phase c.in-Ok-found.d c.if-record-ne161.false phase pairing)
     (ap read_of (sym (own l (machine l c.in-Ok.phase c.in-Ok-found.d) (rw kept at (sym c.is_record_of.ensures ∙ c.if-is_record_of.true)))))
 
@@ -64,7 +64,7 @@ returns-else-is_record_of c =
     let phase : phase_at c.args.role l ≡ accepted c.in-Ok.phase = sym c.read_phase.ensures ∙ ap try_phase c.in-Ok.is in
     let pairing : pairing_data_of l ≡ accepted c.in-Ok-found.d = sym c.read_pairing_data-found.ensures ∙ ap try_pairing_data c.in-Ok-found.is in
     let kept : c.kept_by-confirm_data.result ≡ kept_by c.in-Ok.phase (confirm_data_of l) =
-        c.kept_by-confirm_data.ensures ∙ ap (kept_by c.in-Ok.phase) c.read_confirm_data.ensures in
+    c.kept_by-confirm_data.ensures ∙ ap (kept_by c.in-Ok.phase) c.read_confirm_data.ensures in
     c.refuse-else-is_record_of.ensures
     ∙ rw (with_data c.args.role l c.in-Ok.phase c.in-Ok-found.d c.if-record-ne161.false phase pairing)
     (ap read_of (sym (not_own l (machine l c.in-Ok.phase c.in-Ok-found.d) (rw kept at (sym c.is_record_of.ensures ∙ c.if-is_record_of.false)))))
