@@ -72,7 +72,7 @@ pub fn choose_legacy_pairing_method(
     }
 }
 
-// The same choice, for callers: the checker covers no call of a function whose contract asks for an enum by a bracket.
+// The same choice, by the definition alone.
 pub fn legacy_pairing_method(central: PairingFeatures, peripheral: PairingFeatures) -> PairingMethod
     ensures { result ≡ legacy_method central peripheral }
 {
