@@ -4,34 +4,65 @@ use crate::buffer::{octet, part, put, same};
 use crate::hosts::{HEAD, TERMINAL, record};
 use crate::print::{end, quoted, say, small};
 use octet_values::{DONE, read_features};
+use std::env::{Env, FillError};
+use std::io;
 use types::KeyDistributionFlags;
 
 // The longest argument that is looked at.
 const WORD: usize = 64;
 
-fn right() {
+fn right(rt: &impl Print) -> io::Result<()> {
     say(
+        rt,
         b" Right: pair [--late] SCENE, of clerk, bonded, passkey, typed, oob, plain; or pair [--late] TERMINAL HEAD, ",
-    );
-    say(b"each 12 hexadecimal digits.\n");
+    )?;
+    say(rt, b"each 12 hexadecimal digits.\n")
+}
+
+// Copies argument i to the front of a buffer, and returns its length; 0 where there is none, or it does not fit.
+fn argument(rt: &impl Env, i: usize, word: &mut [u8]) -> usize {
+    match rt.arg(i, word) {
+        Ok(n) => n,
+        Err(_) => 0,
+    }
+}
+
+// Whether there is an argument i, of any length.
+fn has_argument(rt: &impl Env, i: usize) -> bool {
+    let mut word = [0u8; WORD];
+    match rt.arg(i, &mut word) {
+        Ok(_) => true,
+        Err(FillError::TooLong) => true,
+        Err(FillError::NotPresent) => false,
+    }
+}
+
+// The number of arguments, that of the program's name among them.
+fn argument_count(rt: &impl Env) -> usize {
+    for i in 0..usize::MAX {
+        if !has_argument(rt, i) {
+            return i;
+        }
+    }
+    usize::MAX
 }
 
 // Whether argument i is --late.
-fn is_late(i: usize) -> bool {
+fn is_late(rt: &impl Env, i: usize) -> bool {
     let mut word = [0u8; WORD];
-    let n = os::arg(i, &mut word);
+    let n = argument(rt, i, &mut word);
     same(part(&word, 0, n), b"--late")
 }
 
 // The place of --late among the arguments; 0 where it is not there.
-pub(crate) fn late_place() -> usize {
-    if is_late(1) {
+pub(crate) fn late_place(rt: &impl Env) -> usize {
+    if is_late(rt, 1) {
         return 1;
     }
-    if is_late(2) {
+    if is_late(rt, 2) {
         return 2;
     }
-    if is_late(3) {
+    if is_late(rt, 3) {
         return 3;
     }
     0
@@ -56,8 +87,8 @@ fn second_place(late: usize) -> usize {
 }
 
 // Places up to the last argument, that of --late left out.
-fn places(late: usize) -> usize {
-    let count = os::arg_count();
+fn places(rt: &impl Env, late: usize) -> usize {
+    let count = argument_count(rt);
     if late == 0 {
         return count;
     }
@@ -106,162 +137,178 @@ fn put_digits(text: &[u8], s: &mut [u8], place: usize) -> usize {
     at
 }
 
-fn wrong_record(role: u8) {
-    say(b"pair: the ");
-    end(role);
-    say(b"'s record ");
+fn wrong_record(rt: &impl Print, role: u8) -> io::Result<()> {
+    say(rt, b"pair: the ")?;
+    end(rt, role)?;
+    say(rt, b"'s record ")
 }
 
 // Reads an end's record, of 12 digits.
-fn read_record(role: u8, text: &[u8], records: &mut [u8], place: usize) -> bool {
+fn read_record(
+    rt: &impl Print,
+    role: u8,
+    text: &[u8],
+    records: &mut [u8],
+    place: usize,
+) -> io::Result<bool> {
     if text.len() != 12 {
-        wrong_record(role);
-        say(b"does not have 12 characters. ");
+        wrong_record(rt, role)?;
+        say(rt, b"does not have 12 characters. ")?;
         say(
+            rt,
             b"Right: two digits each for I/O, OOB, AuthReq, key size, initiator keys, responder keys.\n",
-        );
-        return false;
+        )?;
+        return Ok(false);
     }
     let at = no_digit(text);
     if at < 12 {
-        wrong_record(role);
-        say(b"has the character ");
-        quoted(part(text, at, 1));
-        say(b". Right: hexadecimal digits alone.\n");
-        return false;
+        wrong_record(rt, role)?;
+        say(rt, b"has the character ")?;
+        quoted(rt, part(text, at, 1))?;
+        say(rt, b". Right: hexadecimal digits alone.\n")?;
+        return Ok(false);
     }
     put_digits(text, records, place);
-    true
+    Ok(true)
 }
 
 // What a record has that is refused.
-fn refused(role: u8, features: &[u8]) {
-    wrong_record(role);
+fn refused(rt: &impl Print, role: u8, features: &[u8]) -> io::Result<()> {
+    wrong_record(rt, role)?;
     if 4 < octet(features, 0) {
-        say(b"has I/O ");
-        small(octet(features, 0));
-        say(b". Right: 0 to 4.\n");
+        say(rt, b"has I/O ")?;
+        small(rt, octet(features, 0))?;
+        say(rt, b". Right: 0 to 4.\n")
     } else if 1 < octet(features, 1) {
-        say(b"has OOB ");
-        small(octet(features, 1));
-        say(b". Right: 0 or 1.\n");
+        say(rt, b"has OOB ")?;
+        small(rt, octet(features, 1))?;
+        say(rt, b". Right: 0 or 1.\n")
     } else {
-        say(b"has key size ");
-        small(octet(features, 3));
-        say(b". Right: 7 to 16, in digits 07 to 10.\n");
+        say(rt, b"has key size ")?;
+        small(rt, octet(features, 3))?;
+        say(rt, b". Right: 7 to 16, in digits 07 to 10.\n")
     }
 }
 
 // Whether an end's record is read as features.
-fn is_features(role: u8, records: &[u8]) -> bool {
+fn is_features(rt: &impl Print, role: u8, records: &[u8]) -> io::Result<bool> {
     let mut fields = [0u8; 6];
     let features = record(role, records);
     if read_features(features, &mut fields) == DONE {
-        return true;
+        return Ok(true);
     }
-    refused(role, features);
-    false
+    refused(rt, role, features)?;
+    Ok(false)
 }
 
 // The head's record names an initiator key that the terminal's lacks.
-fn no_fair_start(key: &[u8]) {
-    say(b"pair: the head's record names the initiator key ");
-    say(key);
-    say(b", which the terminal's lacks: no fair start. ");
-    say(b"Right: both name it, or the head's does not.\n");
+fn no_fair_start(rt: &impl Print, key: &[u8]) -> io::Result<()> {
+    say(rt, b"pair: the head's record names the initiator key ")?;
+    say(rt, key)?;
+    say(rt, b", which the terminal's lacks: no fair start. ")?;
+    say(rt, b"Right: both name it, or the head's does not.\n")
 }
 
 // Whether a fair link may start so: the head's record names no initiator key that the terminal's lacks.
-fn is_fair(records: &[u8]) -> bool {
+fn is_fair(rt: &impl Print, records: &[u8]) -> io::Result<bool> {
     let terminal = KeyDistributionFlags(octet(records, 4));
     let head = KeyDistributionFlags(octet(records, 10));
     if head.encryption_key() {
         if !terminal.encryption_key() {
-            no_fair_start(b"EncKey");
-            return false;
+            no_fair_start(rt, b"EncKey")?;
+            return Ok(false);
         }
     }
     if head.identity_key() {
         if !terminal.identity_key() {
-            no_fair_start(b"IdKey");
-            return false;
+            no_fair_start(rt, b"IdKey")?;
+            return Ok(false);
         }
     }
-    true
+    Ok(true)
 }
 
 // Reads both records.
-fn read_records(terminal: &[u8], head: &[u8], records: &mut [u8]) -> bool {
-    if !read_record(TERMINAL, terminal, records, 0) {
-        return false;
+fn read_records(
+    rt: &impl Print,
+    terminal: &[u8],
+    head: &[u8],
+    records: &mut [u8],
+) -> io::Result<bool> {
+    if !read_record(rt, TERMINAL, terminal, records, 0)? {
+        return Ok(false);
     }
-    if !read_record(HEAD, head, records, 6) {
-        return false;
+    if !read_record(rt, HEAD, head, records, 6)? {
+        return Ok(false);
     }
-    if !is_features(TERMINAL, records) {
-        return false;
+    if !is_features(rt, TERMINAL, records)? {
+        return Ok(false);
     }
-    if !is_features(HEAD, records) {
-        return false;
+    if !is_features(rt, HEAD, records)? {
+        return Ok(false);
     }
-    is_fair(records)
+    is_fair(rt, records)
 }
 
 // There is no scene of this name. A name over 64 characters is read as empty.
-fn no_scene(name: &[u8]) {
+fn no_scene(rt: &impl Print, name: &[u8]) -> io::Result<()> {
     if name.len() == 0 {
-        say(b"pair: there is no such scene.");
+        say(rt, b"pair: there is no such scene.")?;
     } else {
-        say(b"pair: there is no scene ");
-        quoted(name);
-        say(b".");
+        say(rt, b"pair: there is no scene ")?;
+        quoted(rt, name)?;
+        say(rt, b".")?;
     }
-    right();
+    right(rt)
 }
 
 // The records of a scene.
-fn read_scene(name: &[u8], records: &mut [u8]) -> bool {
+fn read_scene(rt: &impl Print, name: &[u8], records: &mut [u8]) -> io::Result<bool> {
     // no common wish to bond, and the request names the terminal's identity key
     if same(name, b"clerk") {
-        return read_records(b"030001100303", b"030000100003", records);
+        return read_records(rt, b"030001100303", b"030000100003", records);
     }
     if same(name, b"bonded") {
-        return read_records(b"030001100303", b"030001100303", records);
+        return read_records(rt, b"030001100303", b"030001100303", records);
     }
     if same(name, b"passkey") {
-        return read_records(b"000005100303", b"020005100303", records);
+        return read_records(rt, b"000005100303", b"020005100303", records);
     }
     if same(name, b"typed") {
-        return read_records(b"020005100303", b"020005100303", records);
+        return read_records(rt, b"020005100303", b"020005100303", records);
     }
     if same(name, b"oob") {
-        return read_records(b"030101100303", b"030101100303", records);
+        return read_records(rt, b"030101100303", b"030101100303", records);
     }
     if same(name, b"plain") {
-        return read_records(b"030000100000", b"030000100000", records);
+        return read_records(rt, b"030000100000", b"030000100000", records);
     }
-    no_scene(name);
-    false
+    no_scene(rt, name)?;
+    Ok(false)
 }
 
 // Reads the feature records that the arguments name, the terminal's first, or says what is wrong.
-pub(crate) fn read_arguments(late: usize, records: &mut [u8]) -> bool {
+pub(crate) fn read_arguments(
+    rt: &(impl Env + Print),
+    late: usize,
+    records: &mut [u8],
+) -> io::Result<bool> {
     let mut first = [0u8; WORD];
     let mut second = [0u8; WORD];
-    let n = os::arg(first_place(late), &mut first);
-    let m = os::arg(second_place(late), &mut second);
-    match places(late) {
+    let n = argument(rt, first_place(late), &mut first);
+    let m = argument(rt, second_place(late), &mut second);
+    match places(rt, late) {
         0 | 1 => {
-            say(b"pair: no scene and no records are given.");
-            right();
-            false
+            say(rt, b"pair: no scene and no records are given.")?;
+            right(rt)?;
+            Ok(false)
         }
-        2 => read_scene(part(&first, 0, n), records),
-        3 => read_records(part(&first, 0, n), part(&second, 0, m), records),
+        2 => read_scene(rt, part(&first, 0, n), records),
+        3 => read_records(rt, part(&first, 0, n), part(&second, 0, m), records),
         _ => {
-            say(b"pair: there are too many arguments.");
-            right();
-            false
+            say(rt, b"pair: there are too many arguments.")?;
+            right(rt)?;
+            Ok(false)
         }
     }
 }

@@ -6,6 +6,7 @@ use crate::schedule::{End, Given, after_input, fresh_end, is_nothing, next_input
 use crate::step::{Ran, run, send};
 use crate::trace::{input_line, start, state_line, summary};
 use octet_steps::new_machine;
+use std::io;
 use types::{Command, TryCommand};
 
 // The number of an input, of the oldest packet where it is one.
@@ -43,6 +44,7 @@ fn put_payload(given: Given, packets: &[u8], payload: &mut [u8]) -> usize {
 
 // An end gets input n.
 fn take(
+    rt: &impl Print,
     role: u8,
     given: Given,
     n: u64,
@@ -52,20 +54,20 @@ fn take(
     own_queue: &[u8],
     queue: &mut [u8],
     records: &[u8],
-) -> Ran {
+) -> io::Result<Ran> {
     let mut octets = [0u8; 16];
     let packets = part(own_queue, end.first, own_queue.len());
     let size = put_payload(given, packets, &mut octets);
     let payload = part(&octets, 0, size);
     let input = input_number(given, packets);
     let before = octet(machine, 0);
-    input_line(n, role, before, input, payload);
+    input_line(rt, n, role, before, input, payload)?;
     let now = after_input(end, given, size);
     let ran = run(
-        role, input, payload, now, other.past, machine, queue, records,
-    );
-    state_line(role, before, octet(machine, 0));
-    ran
+        rt, role, input, payload, now, other.past, machine, queue, records,
+    )?;
+    state_line(rt, role, before, octet(machine, 0))?;
+    Ok(ran)
 }
 
 #[derive(Clone, Copy)]
@@ -106,8 +108,45 @@ fn head_ran(ran: Ran, mut terminal: End) -> Turned {
     }
 }
 
+// The terminal gets input n.
+fn take_at_terminal(
+    rt: &impl Print,
+    given: Given,
+    n: u64,
+    terminal: End,
+    head: End,
+    machine: &mut [u8],
+    own_queue: &[u8],
+    queue: &mut [u8],
+    records: &[u8],
+) -> io::Result<Turned> {
+    let ran = take(
+        rt, TERMINAL, given, n, terminal, head, machine, own_queue, queue, records,
+    )?;
+    Ok(terminal_ran(ran, head))
+}
+
+// The head gets input n.
+fn take_at_head(
+    rt: &impl Print,
+    given: Given,
+    n: u64,
+    terminal: End,
+    head: End,
+    machine: &mut [u8],
+    own_queue: &[u8],
+    queue: &mut [u8],
+    records: &[u8],
+) -> io::Result<Turned> {
+    let ran = take(
+        rt, HEAD, given, n, head, terminal, machine, own_queue, queue, records,
+    )?;
+    Ok(head_ran(ran, terminal))
+}
+
 // An end gets input n, on the machines and the queues of both.
 fn take_at(
+    rt: &impl Print,
     role: u8,
     given: Given,
     n: u64,
@@ -118,10 +157,10 @@ fn take_at(
     to_terminal: &mut [u8],
     to_head: &mut [u8],
     records: &[u8],
-) -> Turned {
+) -> io::Result<Turned> {
     if role == TERMINAL {
-        let ran = take(
-            TERMINAL,
+        return take_at_terminal(
+            rt,
             given,
             n,
             terminal,
@@ -131,24 +170,23 @@ fn take_at(
             to_head,
             records,
         );
-        return terminal_ran(ran, head);
     }
-    let ran = take(
-        HEAD,
+    take_at_head(
+        rt,
         given,
         n,
-        head,
         terminal,
+        head,
         at_head,
         to_head,
         to_terminal,
         records,
-    );
-    head_ran(ran, terminal)
+    )
 }
 
 // The next input, if any.
 fn turn(
+    rt: &impl Print,
     late: bool,
     n: u64,
     terminal: End,
@@ -158,13 +196,14 @@ fn turn(
     to_terminal: &mut [u8],
     to_head: &mut [u8],
     records: &[u8],
-) -> Turned {
+) -> io::Result<Turned> {
     let next = next_input(terminal, head, late);
     let given = next.given;
     if is_nothing(given) {
-        return over(terminal, head);
+        return Ok(over(terminal, head));
     }
     take_at(
+        rt,
         next.role,
         given,
         n,
@@ -196,6 +235,7 @@ fn over_after(terminal: End, inputs: u64) -> Played {
 
 // Takes inputs until there is none, at most 64: a fair run has at most 18.
 fn take_all(
+    rt: &impl Print,
     late: bool,
     begun: End,
     at_terminal: &mut [u8],
@@ -203,11 +243,12 @@ fn take_all(
     to_terminal: &mut [u8],
     to_head: &mut [u8],
     records: &[u8],
-) -> Played {
+) -> io::Result<Played> {
     let mut terminal = fresh_end();
     let mut head = begun;
     for n in 0..64 {
         let turned = turn(
+            rt,
             late,
             n + 1,
             terminal,
@@ -217,14 +258,14 @@ fn take_all(
             to_terminal,
             to_head,
             records,
-        );
+        )?;
         if turned.over {
-            return over_after(terminal, n);
+            return Ok(over_after(terminal, n));
         }
         terminal = turned.terminal;
         head = turned.head;
     }
-    over_after(terminal, 64)
+    Ok(over_after(terminal, 64))
 }
 
 // Writes the record of a machine that begins a pairing.
@@ -237,17 +278,18 @@ fn begin(role: u8, records: &[u8], machine: &mut [u8]) {
 }
 
 // Plays a pairing of two feature records, the terminal's first. At the start only the request is queued, to the head.
-pub(crate) fn play(records: &[u8], late: bool) {
+pub(crate) fn play(rt: &impl Print, records: &[u8], late: bool) -> io::Result<()> {
     let mut terminal = [0u8; 161];
     let mut head = [0u8; 161];
     let mut to_terminal = [0u8; 256];
     let mut to_head = [0u8; 256];
     begin(TERMINAL, records, &mut terminal);
     begin(HEAD, records, &mut head);
-    start(records, late);
+    start(rt, records, late)?;
     let mut first = fresh_end();
     first.past = send(0x01, record(TERMINAL, records), &mut to_head, 0);
     let run = take_all(
+        rt,
         late,
         first,
         &mut terminal,
@@ -255,6 +297,6 @@ pub(crate) fn play(records: &[u8], late: bool) {
         &mut to_terminal,
         &mut to_head,
         records,
-    );
-    summary(&terminal, &head, run.level, run.key_size, run.inputs);
+    )?;
+    summary(rt, &terminal, &head, run.level, run.key_size, run.inputs)
 }

@@ -14,11 +14,13 @@ mod trace;
 
 use arguments::{late_place, read_arguments};
 use link::play;
+use std::io;
 
-fn main() {
+fn main(rt: HostRuntime) -> io::Result<()> {
     let mut records = [0u8; 12];
-    let late = late_place();
-    if read_arguments(late, &mut records) {
-        play(&records, late != 0);
+    let late = late_place(&rt);
+    if read_arguments(&rt, late, &mut records)? {
+        play(&rt, &records, late != 0)?;
     }
+    Ok(())
 }

@@ -1,27 +1,28 @@
-// Text on standard output: numbers, octets and what they stand for. What cannot be written is lost.
+// Text on standard output: numbers, octets and what they stand for. Each function fails where its text cannot be written.
 ghost use Rattle.std.specs.Prelude.{◌<◌};
 
 use crate::buffer::{octet, part};
 use crate::hosts::TERMINAL;
-use libc::STDOUT_FILENO;
+use std::io;
 use types::{AuthReq, BondingFlag, KeyDistributionFlags};
 
-pub(crate) fn say(text: &[u8]) {
-    io::write_all(STDOUT_FILENO, text);
+pub(crate) fn say(rt: &impl Print, text: &[u8]) -> io::Result<()> {
+    rt.write_all(text)
 }
 
 // A text, and spaces up to a width.
-pub(crate) fn pad(text: &[u8], width: usize) {
-    say(text);
+pub(crate) fn pad(rt: &impl Print, text: &[u8], width: usize) -> io::Result<()> {
+    say(rt, text)?;
     let mut i = text.len();
     while i < width {
-        say(b" ");
+        say(rt, b" ")?;
         i += 1;
     }
+    Ok(())
 }
 
-pub(crate) fn number(n: u64) {
-    io::print_decimal(STDOUT_FILENO, n);
+pub(crate) fn number(rt: &impl Print, n: u64) -> io::Result<()> {
+    print!(rt; "{n}")
 }
 
 fn wide(x: u8) -> u64
@@ -30,160 +31,163 @@ fn wide(x: u8) -> u64
     x as u64
 }
 
-pub(crate) fn small(n: u8) {
-    number(wide(n));
+pub(crate) fn small(rt: &impl Print, n: u8) -> io::Result<()> {
+    number(rt, wide(n))
 }
 
-pub(crate) fn hex(n: u8) {
-    io::print_hex(STDOUT_FILENO, wide(n), 2);
+pub(crate) fn hex(rt: &impl Print, n: u8) -> io::Result<()> {
+    print!(rt; "{n:02x}")
 }
 
 // Octets in hexadecimal, in their order.
-pub(crate) fn octets(s: &[u8]) {
+pub(crate) fn octets(rt: &impl Print, s: &[u8]) -> io::Result<()> {
     for i in 0..s.len() {
-        hex(s[i]);
+        hex(rt, s[i])?;
     }
+    Ok(())
 }
 
 // Octets that run most significant first, least significant first.
-pub(crate) fn reversed(s: &[u8]) {
+pub(crate) fn reversed(rt: &impl Print, s: &[u8]) -> io::Result<()> {
     let mut i = s.len();
     while 0 < i {
         i -= 1;
-        hex(s[i]);
+        hex(rt, s[i])?;
     }
+    Ok(())
 }
 
 // The number of octets, least significant first, of which the first four count.
-pub(crate) fn value(s: &[u8]) {
+pub(crate) fn value(rt: &impl Print, s: &[u8]) -> io::Result<()> {
     let mut n = 0;
     let mut i = s.len();
     while 0 < i {
         i -= 1;
         n = n % 0x0100_0000 * 256 + wide(s[i]);
     }
-    number(n);
+    number(rt, n)
 }
 
 // Other people's text, with a question mark for what is no printable ASCII.
-pub(crate) fn quoted(text: &[u8]) {
-    say(b"'");
+pub(crate) fn quoted(rt: &impl Print, text: &[u8]) -> io::Result<()> {
+    say(rt, b"'")?;
     for i in 0..text.len() {
         let c = text[i];
         if c < b' ' || b'~' < c {
-            say(b"?");
+            say(rt, b"?")?;
         } else {
-            say(&[c]);
+            say(rt, &[c])?;
         }
     }
-    say(b"'");
+    say(rt, b"'")
 }
 
-fn colon(n: u8) {
-    hex(n);
-    say(b":");
+fn colon(rt: &impl Print, n: u8) -> io::Result<()> {
+    hex(rt, n)?;
+    say(rt, b":")
 }
 
 // Seven octets: the kind of an address and the address, least significant octet first.
-pub(crate) fn address(s: &[u8]) {
-    colon(octet(s, 6));
-    colon(octet(s, 5));
-    colon(octet(s, 4));
-    colon(octet(s, 3));
-    colon(octet(s, 2));
-    hex(octet(s, 1));
+pub(crate) fn address(rt: &impl Print, s: &[u8]) -> io::Result<()> {
+    colon(rt, octet(s, 6))?;
+    colon(rt, octet(s, 5))?;
+    colon(rt, octet(s, 4))?;
+    colon(rt, octet(s, 3))?;
+    colon(rt, octet(s, 2))?;
+    hex(rt, octet(s, 1))?;
     if octet(s, 0) == 0 {
-        say(b" (public)");
+        say(rt, b" (public)")
     } else {
-        say(b" (random)");
+        say(rt, b" (random)")
     }
 }
 
-pub(crate) fn end(role: u8) {
+pub(crate) fn end(rt: &impl Print, role: u8) -> io::Result<()> {
     if role == TERMINAL {
-        say(b"terminal");
+        say(rt, b"terminal")
     } else {
-        say(b"head");
+        say(rt, b"head")
     }
 }
 
-pub(crate) fn yes_no(flag: u8) {
+pub(crate) fn yes_no(rt: &impl Print, flag: u8) -> io::Result<()> {
     if flag == 0 {
-        say(b"no");
+        say(rt, b"no")
     } else {
-        say(b"yes");
+        say(rt, b"yes")
     }
 }
 
-fn io_capabilities(io: u8) {
+fn io_capabilities(rt: &impl Print, io: u8) -> io::Result<()> {
     match io {
-        0 => say(b"DisplayOnly"),
-        1 => say(b"DisplayYesNo"),
-        2 => say(b"KeyboardOnly"),
-        3 => say(b"NoInputNoOutput"),
-        _ => say(b"KeyboardDisplay"),
+        0 => say(rt, b"DisplayOnly"),
+        1 => say(rt, b"DisplayYesNo"),
+        2 => say(rt, b"KeyboardOnly"),
+        3 => say(rt, b"NoInputNoOutput"),
+        _ => say(rt, b"KeyboardDisplay"),
     }
 }
 
 // A text, where a flag is set.
-fn flag(set: bool, text: &[u8]) {
+fn flag(rt: &impl Print, set: bool, text: &[u8]) -> io::Result<()> {
     if set {
-        say(text);
+        return say(rt, text);
     }
+    Ok(())
 }
 
-fn auth_req(flags: AuthReq) {
+fn auth_req(rt: &impl Print, flags: AuthReq) -> io::Result<()> {
     let wish = flags.bond();
     match wish {
-        BondingFlag::Bonding => say(b", bonding"),
-        BondingFlag::NoBonding => say(b", no bonding"),
+        BondingFlag::Bonding => say(rt, b", bonding")?,
+        BondingFlag::NoBonding => say(rt, b", no bonding")?,
     }
-    flag(flags.man_in_the_middle(), b", MITM");
-    flag(flags.secure_connection(), b", SC");
-    flag(flags.key_press_notification(), b", keypress");
-    flag(flags.ct2(), b", CT2");
+    flag(rt, flags.man_in_the_middle(), b", MITM")?;
+    flag(rt, flags.secure_connection(), b", SC")?;
+    flag(rt, flags.key_press_notification(), b", keypress")?;
+    flag(rt, flags.ct2(), b", CT2")
 }
 
-fn keys(flags: KeyDistributionFlags) {
-    flag((flags.0 & 0b1111) == 0, b" none");
-    flag(flags.encryption_key(), b" EncKey");
-    flag(flags.identity_key(), b" IdKey");
-    flag(flags.signing_key(), b" SignKey");
-    flag(flags.link_key(), b" LinkKey");
+fn keys(rt: &impl Print, flags: KeyDistributionFlags) -> io::Result<()> {
+    flag(rt, (flags.0 & 0b1111) == 0, b" none")?;
+    flag(rt, flags.encryption_key(), b" EncKey")?;
+    flag(rt, flags.identity_key(), b" IdKey")?;
+    flag(rt, flags.signing_key(), b" SignKey")?;
+    flag(rt, flags.link_key(), b" LinkKey")
 }
 
 // A feature record of six octets.
-pub(crate) fn features(s: &[u8]) {
-    io_capabilities(octet(s, 0));
+pub(crate) fn features(rt: &impl Print, s: &[u8]) -> io::Result<()> {
+    io_capabilities(rt, octet(s, 0))?;
     if octet(s, 1) == 0 {
-        say(b", no OOB");
+        say(rt, b", no OOB")?;
     } else {
-        say(b", OOB");
+        say(rt, b", OOB")?;
     }
-    auth_req(AuthReq(octet(s, 2)));
-    say(b", key size ");
-    small(octet(s, 3));
-    say(b", initiator");
-    keys(KeyDistributionFlags(octet(s, 4)));
-    say(b", responder");
-    keys(KeyDistributionFlags(octet(s, 5)));
+    auth_req(rt, AuthReq(octet(s, 2)))?;
+    say(rt, b", key size ")?;
+    small(rt, octet(s, 3))?;
+    say(rt, b", initiator")?;
+    keys(rt, KeyDistributionFlags(octet(s, 4)))?;
+    say(rt, b", responder")?;
+    keys(rt, KeyDistributionFlags(octet(s, 5)))
 }
 
-pub(crate) fn level(n: u8) {
-    small(n);
+pub(crate) fn level(rt: &impl Print, n: u8) -> io::Result<()> {
+    small(rt, n)?;
     match n {
-        1 => say(b" Encrypted"),
-        2 => say(b" EncryptedAuthenticated"),
-        _ => say(b" of the host"),
+        1 => say(rt, b" Encrypted"),
+        2 => say(rt, b" EncryptedAuthenticated"),
+        _ => say(rt, b" of the host"),
     }
 }
 
 // EDIV and Rand.
-pub(crate) fn identification(s: &[u8]) {
-    say(b"EDIV ");
-    value(part(s, 0, 2));
-    say(b", Rand ");
-    octets(part(s, 2, 8));
+pub(crate) fn identification(rt: &impl Print, s: &[u8]) -> io::Result<()> {
+    say(rt, b"EDIV ")?;
+    value(rt, part(s, 0, 2))?;
+    say(rt, b", Rand ")?;
+    octets(rt, part(s, 2, 8))
 }
 
 fn is_zero(s: &[u8]) -> bool {
@@ -196,60 +200,66 @@ fn is_zero(s: &[u8]) -> bool {
 }
 
 // A bond of 51 octets.
-pub(crate) fn bond(s: &[u8]) {
-    say(b"LTK ");
-    octets(part(s, 0, 16));
-    say(b", ");
-    identification(part(s, 16, 10));
+pub(crate) fn bond(rt: &impl Print, s: &[u8]) -> io::Result<()> {
+    say(rt, b"LTK ")?;
+    octets(rt, part(s, 0, 16))?;
+    say(rt, b", ")?;
+    identification(rt, part(s, 16, 10))?;
     if octet(s, 26) == 0 {
-        say(b", not bonded, level ");
+        say(rt, b", not bonded, level ")?;
     } else {
-        say(b", bonded, level ");
+        say(rt, b", bonded, level ")?;
     }
-    small(octet(s, 27));
+    small(rt, octet(s, 27))?;
     let irk = part(s, 28, 16);
     if is_zero(irk) {
-        say(b", no IRK, ");
+        say(rt, b", no IRK, ")?;
     } else {
-        say(b", IRK ");
-        octets(irk);
-        say(b", ");
+        say(rt, b", IRK ")?;
+        octets(rt, irk)?;
+        say(rt, b", ")?;
     }
-    address(part(s, 44, 7));
+    address(rt, part(s, 44, 7))
 }
 
 // The state of a machine record, by the Rust's names.
-pub(crate) fn state(role: u8, phase: u8) {
+pub(crate) fn state(rt: &impl Print, role: u8, phase: u8) -> io::Result<()> {
     match phase {
         0 => {
             if role == TERMINAL {
-                say(b"WaitingPairingResponse");
+                say(rt, b"WaitingPairingResponse")
             } else {
-                say(b"WaitingPairingRequest");
+                say(rt, b"WaitingPairingRequest")
             }
         }
-        1 => say(b"WaitingPassKeyInput"),
-        2 => say(b"WaitingOobData"),
-        3 => say(b"WaitingPairingConfirm"),
-        4 => say(b"WaitingPairingRandom"),
-        5 => say(b"WaitingLinkEncrypted"),
-        6 => say(b"WaitingIdentitityInformation"),
-        7 => say(b"WaitingIdentitityAddressInformation"),
-        8 => say(b"ReceivingKeys"),
-        9 => say(b"Success"),
-        _ => say(b"Error"),
+        1 => say(rt, b"WaitingPassKeyInput"),
+        2 => say(rt, b"WaitingOobData"),
+        3 => say(rt, b"WaitingPairingConfirm"),
+        4 => say(rt, b"WaitingPairingRandom"),
+        5 => say(rt, b"WaitingLinkEncrypted"),
+        6 => say(rt, b"WaitingIdentitityInformation"),
+        7 => say(rt, b"WaitingIdentitityAddressInformation"),
+        8 => say(rt, b"ReceivingKeys"),
+        9 => say(rt, b"Success"),
+        _ => say(rt, b"Error"),
     }
 }
 
 // The method of a machine record.
-pub(crate) fn method(n: u8) {
+pub(crate) fn method(rt: &impl Print, n: u8) -> io::Result<()> {
     match n {
-        0 => say(b"JustWorks"),
-        1 => say(b"NumericComparison"),
-        2 => say(b"the terminal shows, the head types: PassKeyEntry CENTRAL_DISPLAYS"),
-        3 => say(b"the head shows, the terminal types: PassKeyEntry PERIPHERAL_DISPLAYS"),
-        4 => say(b"both type: PassKeyEntry BOTH_INPUT"),
-        5 => say(b"OutOfBand"),
-        _ => say(b"both show: PassKeyEntry"),
+        0 => say(rt, b"JustWorks"),
+        1 => say(rt, b"NumericComparison"),
+        2 => say(
+            rt,
+            b"the terminal shows, the head types: PassKeyEntry CENTRAL_DISPLAYS",
+        ),
+        3 => say(
+            rt,
+            b"the head shows, the terminal types: PassKeyEntry PERIPHERAL_DISPLAYS",
+        ),
+        4 => say(rt, b"both type: PassKeyEntry BOTH_INPUT"),
+        5 => say(rt, b"OutOfBand"),
+        _ => say(rt, b"both show: PassKeyEntry"),
     }
 }

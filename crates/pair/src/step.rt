@@ -6,6 +6,7 @@ use crate::schedule::{End, after_call};
 use crate::trace::{call_line, refused_line};
 use octet_steps::{WANTS, step_machine};
 use octet_values::{DONE, call_at};
+use std::io;
 
 // A packet joins the queue of the other end, whose octets end at a place; no other call does.
 pub(crate) fn send(kind: u8, body: &[u8], queue: &mut [u8], past: usize) -> usize {
@@ -29,6 +30,7 @@ pub struct Ran {
 
 // A call that is listed for the first time: it counts, and the host answers it.
 fn listed(
+    rt: &impl Print,
     role: u8,
     kind: u8,
     body: &[u8],
@@ -36,19 +38,19 @@ fn listed(
     queue: &mut [u8],
     records: &[u8],
     answers: &mut [u8],
-) -> Ran {
+) -> io::Result<Ran> {
     let had = ran.have;
     let end = after_call(ran.end, kind, body);
     let past = send(kind, body, queue, ran.past);
     let have = put_answer(role, kind, body, records, answers, had);
     let given = part(part(answers, 0, have), had, have);
-    call_line(kind, body, part(given, 1, have));
-    Ran {
+    call_line(rt, kind, body, part(given, 1, have))?;
+    Ok(Ran {
         end,
         past,
         have,
         more: true,
-    }
+    })
 }
 
 fn ended(mut ran: Ran) -> Ran {
@@ -58,6 +60,7 @@ fn ended(mut ran: Ran) -> Ran {
 
 // The call at an index of a step's list.
 fn call_listed(
+    rt: &impl Print,
     role: u8,
     index: usize,
     list: &[u8],
@@ -65,17 +68,17 @@ fn call_listed(
     queue: &mut [u8],
     records: &[u8],
     answers: &mut [u8],
-) -> Ran {
+) -> io::Result<Ran> {
     let mut kind = 0;
     let mut body = 0;
     let mut size = 0;
     let found = call_at(list, index, &mut kind, &mut body, &mut size);
     if found != DONE {
-        refused_line(found);
-        return ended(ran);
+        refused_line(rt, found)?;
+        return Ok(ended(ran));
     }
     let call = part(list, body, size);
-    listed(role, kind, call, ran, queue, records, answers)
+    listed(rt, role, kind, call, ran, queue, records, answers)
 }
 
 #[derive(Clone, Copy)]
@@ -113,6 +116,7 @@ fn step(
 
 // Where the step wants an answer, its list has one call more than before, at this index.
 fn run_once(
+    rt: &impl Print,
     role: u8,
     index: usize,
     input: u16,
@@ -123,21 +127,22 @@ fn run_once(
     records: &[u8],
     answers: &mut [u8],
     list: &mut [u8],
-) -> Ran {
+) -> io::Result<Ran> {
     let stepped = step(role, input, payload, ran.have, machine, answers, list);
     if stepped.outcome == DONE {
-        return ended(ran);
+        return Ok(ended(ran));
     }
     if stepped.outcome != WANTS {
-        refused_line(stepped.outcome);
-        return ended(ran);
+        refused_line(rt, stepped.outcome)?;
+        return Ok(ended(ran));
     }
     let calls = part(list, 0, stepped.written);
-    call_listed(role, index, calls, ran, queue, records, answers)
+    call_listed(rt, role, index, calls, ran, queue, records, answers)
 }
 
 // Runs a step until it ends: it makes at most 11 calls.
 fn run_on(
+    rt: &impl Print,
     role: u8,
     input: u16,
     payload: &[u8],
@@ -147,21 +152,22 @@ fn run_on(
     records: &[u8],
     answers: &mut [u8],
     list: &mut [u8],
-) -> Ran {
+) -> io::Result<Ran> {
     let mut ran = begun;
     for index in 0..12 {
         ran = run_once(
-            role, index, input, payload, ran, machine, queue, records, answers, list,
-        );
+            rt, role, index, input, payload, ran, machine, queue, records, answers, list,
+        )?;
         if !ran.more {
-            return ran;
+            return Ok(ran);
         }
     }
-    ran
+    Ok(ran)
 }
 
 // A whole step.
 pub(crate) fn run(
+    rt: &impl Print,
     role: u8,
     input: u16,
     payload: &[u8],
@@ -170,7 +176,7 @@ pub(crate) fn run(
     machine: &mut [u8],
     queue: &mut [u8],
     records: &[u8],
-) -> Ran {
+) -> io::Result<Ran> {
     let mut answers = [0u8; 1024];
     let mut list = [0u8; 164];
     let begun = Ran {
@@ -180,6 +186,7 @@ pub(crate) fn run(
         more: true,
     };
     run_on(
+        rt,
         role,
         input,
         payload,

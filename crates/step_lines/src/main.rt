@@ -6,8 +6,9 @@ ghost use Rattle.std.specs.Prelude.{◌≤◌, ◌<◌, length};
 
 use answer_lines::{Wrote, write_answer, write_malformed};
 use entry::step_local;
-use libc::{STDIN_FILENO, STDOUT_FILENO};
 use lines::{ReadLine, Reading, read_line};
+use std::io;
+use std::io::Read;
 
 fn at_most(n: usize, most: usize) -> usize
     ensures { result ≤ most }
@@ -66,11 +67,11 @@ fn answer(line: &[u8], out: &mut [u8]) -> Wrote {
 }
 
 // Writes the answer to a line on standard output.
-fn answer_line(line: &[u8], have: usize, out: &mut [u8]) -> bool {
+fn answer_line(rt: &impl Print, line: &[u8], have: usize, out: &mut [u8]) -> io::Result<()> {
     let end = at_most(have, line.len());
     let wrote = answer(&line[0..end], out);
     let n = written(wrote, out);
-    io::write_all(STDOUT_FILENO, &out[0..n])
+    rt.write_all(&out[0..n])
 }
 
 // One octet more of a line. A full buffer stays as it is: it holds more than the longest line, which is malformed.
@@ -82,6 +83,36 @@ fn keep(line: &mut [u8], have: usize, octet: u8) -> usize {
     have
 }
 
+// A line feed ends a line; any other octet belongs to it. Returns the octets of the line that has not ended.
+fn answer_octet(
+    rt: &impl Print,
+    octet: u8,
+    line: &mut [u8],
+    have: usize,
+    out: &mut [u8],
+) -> io::Result<usize> {
+    if octet == b'\n' {
+        answer_line(rt, line, have, out)?;
+        return Ok(0);
+    }
+    Ok(keep(line, have, octet))
+}
+
+// Answers the lines that end in a text, and keeps the rest of it, whose octets it returns.
+fn answer_text(
+    rt: &impl Print,
+    text: &[u8],
+    line: &mut [u8],
+    given: usize,
+    out: &mut [u8],
+) -> io::Result<usize> {
+    let mut have = given;
+    for i in 0..text.len() {
+        have = answer_octet(rt, text[i], line, have, out)?;
+    }
+    Ok(have)
+}
+
 #[derive(Clone, Copy)]
 struct Kept {
     // octets of a line that has not ended
@@ -89,49 +120,34 @@ struct Kept {
     more: bool,
 }
 
-// A line feed ends a line; any other octet belongs to it.
-fn answer_octet(octet: u8, line: &mut [u8], have: usize, out: &mut [u8]) -> Kept {
-    if octet == b'\n' {
-        let more = answer_line(line, have, out);
-        return Kept { have: 0, more };
-    }
-    let longer = keep(line, have, octet);
-    Kept {
-        have: longer,
-        more: true,
-    }
-}
-
-// Answers the lines that end in a text, and keeps the rest of it.
-fn answer_text(text: &[u8], line: &mut [u8], given: usize, out: &mut [u8]) -> Kept {
-    let mut have = given;
-    for i in 0..text.len() {
-        let kept = answer_octet(text[i], line, have, out);
-        if !kept.more {
-            return kept;
-        }
-        have = kept.have;
-    }
-    Kept { have, more: true }
-}
-
-// Reads a text and answers its lines. There is no more at the end of the input, or where an answer cannot be written.
-fn answer_next(text: &mut [u8], line: &mut [u8], have: usize, out: &mut [u8]) -> Kept {
-    let got = libc::read(STDIN_FILENO, text);
-    let n = io::count(got, text);
+// Reads a text and answers its lines. There is no more at the end of the input.
+fn answer_next(
+    rt: &impl Print,
+    input: &mut impl Read,
+    text: &mut [u8],
+    line: &mut [u8],
+    have: usize,
+    out: &mut [u8],
+) -> io::Result<Kept> {
+    let n = input.read(text)?;
     if n == 0 {
-        return Kept { have, more: false };
+        return Ok(Kept { have, more: false });
     }
-    answer_text(&text[0..n], line, have, out)
+    let kept = answer_text(rt, &text[0..n], line, have, out)?;
+    Ok(Kept {
+        have: kept,
+        more: true,
+    })
 }
 
 // A last line without a line feed is malformed.
-fn answer_end(have: usize, out: &mut [u8]) {
+fn answer_end(rt: &impl Print, have: usize, out: &mut [u8]) -> io::Result<()> {
     if 0 < have {
         let wrote = write_malformed(out);
         let n = written(wrote, out);
-        io::write_all(STDOUT_FILENO, &out[0..n]);
+        return rt.write_all(&out[0..n]);
     }
+    Ok(())
 }
 
 // One turn fewer, and none where there is no more.
@@ -146,20 +162,26 @@ fn left(turns: u64, more: bool) -> u64
 }
 
 // Answers all lines, on buffers that are lent.
-fn answer_all(text: &mut [u8], line: &mut [u8], out: &mut [u8]) {
+fn answer_all(
+    rt: &impl Print,
+    input: &mut impl Read,
+    text: &mut [u8],
+    line: &mut [u8],
+    out: &mut [u8],
+) -> io::Result<()> {
     let mut have = 0;
     let mut turns = u64::MAX;
     while 0 < turns {
-        let kept = answer_next(text, line, have, out);
+        let kept = answer_next(rt, input, text, line, have, out)?;
         have = kept.have;
         turns = left(turns, kept.more);
     }
-    answer_end(have, out);
+    answer_end(rt, have, out)
 }
 
-fn main() {
-    let mut text = io::large_buffer();
+fn main(rt: HostRuntime) -> io::Result<()> {
+    let mut text = [0u8; 65536];
     let mut line = [0u8; 20001];
-    let mut out = io::large_buffer();
-    answer_all(&mut text, &mut line, &mut out);
+    let mut out = [0u8; 65536];
+    answer_all(&rt, &mut rt.stdin(), &mut text, &mut line, &mut out)
 }
