@@ -184,12 +184,12 @@ longest_of :
     (moves : ℕ) × (L : Link) × Run shared (fresh_link (start_of a b full full)) moves 18 L
 longest_of shared a b =
     let s = start_of a b full full in
-    let all_End = (every_fair_run_ends s (full_fair a b)).1 shared in
+    let all_end = (every_fair_run_ends s (full_fair a b)).1 shared in
     let first = first_step shared a b in
-    let z = all_End.begins 1 1 first.0 (move first.1 no_move) in
+    let z = all_end.begins 1 1 first.0 (move first.1 no_move) in
     let run : Run shared (fresh_link s) (suc z.0) (suc z.1) z.2 =
     record { all = move first.1 z.3.all; over = z.3.over } in
-    let ends = all_End.comes_to (suc z.0) (suc z.1) z.2 run in
+    let ends = all_end.comes_to (suc z.0) (suc z.1) z.2 run in
     let grown = calls_grow Peripheral z.3.all in
     let is-full = full_answer first.0 z.2 grown.0 ends.answer first.2 grown.1 ends.answered in
     let eighteen = eighteen_counted ends.answer (suc z.1) is-full ends.counted in

@@ -1,8 +1,9 @@
 -- Believed: the archive's contracts and demand 3 rest on it.
--- legacy_central.rs, the initiator: each of its functions as a program of host calls, under its name. What a
--- function calls stands before it, so the FSM core comes last; else the order is the file's. In the same words in both files, and so in Handlers: `addr_type_flag`, `enter`,
--- `store_confirm_bytes`, `handle_encryption_information`, `handle_identity_information`. With the machine stand `result_of`, `is_encrypted` and
--- `lesc_switch` (`from_lesc_switch`); `mark_timeout` is left out with the timer. Assumes nothing.
+-- legacy_central.rs, the initiator: each of its functions as a program of host calls, under its name. What a function calls
+-- stands before it, so the FSM core comes last; else the order is the file's. In the same words in both files, and so in
+-- Handlers: `addr_type_flag`, `enter`, `store_confirm_bytes`, `handle_encryption_information`,
+-- `handle_identity_information`. With the machine stand `result_of`, `is_encrypted` and `lesc_switch` (`from_lesc_switch`);
+-- `mark_timeout` is left out with the timer. Assumes nothing.
 use Rattle.std.specs.Prelude.{ℕ, Bool, true, false, List}
 use Rattle.octets.specs.Octets.{same_word}
 use Rattle.octets.specs.declared.Word128.{Word128}
