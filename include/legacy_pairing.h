@@ -1,6 +1,6 @@
 /* The legacy pairing machines of a quay terminal (central, initiator) and a scale's radio head (peripheral, responder),
- * on numbers and octet strings. Link with liblegacy_pairing.a, which `rt staticlib legacy_pairing` writes to
- * target/staticlib/ (x86-64; of the C library it needs memcpy and memmove).
+ * on numbers and octet strings. Link with liblegacy_pairing.a, which `rt lib` in crates/legacy_pairing writes to
+ * its out/ (x86-64-v2; of the C library it needs memcpy, memmove and memset).
  *
  * Octet strings run least significant octet first, as on the air. Every octet string is a pointer and a length. Pointers
  * are never null, also where the length is 0; what is written may overlap nothing else that is passed.
