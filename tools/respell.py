@@ -85,6 +85,9 @@ def files():
 
 
 def main():
+    with open(os.path.join(TOP, "crates/protocol/specs/Step.antt"), encoding="utf-8") as f:
+        if NAMES["handleInput"] in f.read():
+            raise SystemExit("respell: it has run here before. A second run would turn new names that are also old ones")
     changed = 0
     for path, how in files():
         with open(path, encoding="utf-8") as f:
