@@ -2,24 +2,15 @@
 use mathlib.Core.Path.{◌≡◌, refl, sym, ap, ◌∙◌}
 use mathlib.Core.Bool.{Bool, ◌||◌}
 use mathlib.Core.List.{List, [], ◌∷◌, map}
-use Prim.Native.Nat.{ℕ, zero, suc, ◌+◌, ◌-◌, ◌*◌, ◌/◌, ◌%◌, ◌<◌}
+use Prim.Native.Nat.{ℕ, zero, suc, ◌*◌, ◌/◌, ◌%◌, ◌<◌}
 use native.Mathlib.Omega.{arith}
 use borrow.Author.Tests.{ne_eqb}
 use lib.Bits.{bit_xor, xor_comm}
 use lib.Dec.{T, eqb, eqb→eq}
-use lib.ListN.{length, get_or}
-use lib.Seq.{ext_get_or}
-use Rattle.octets.specs.Tabulate.{tabulate}
-use Rattle.octets.proofs.Lists.{length_tabulate, tabulate_at}
+use lib.ListN.{get_or}
+use Rattle.std.proofs.lemmas.List.{get_or-map}
 use Rattle.octets.proofs.Table.{all_from, entry_rule}
 use Rattle.aes.specs.Gf.{xtime, product, times, squares, inverse, affine, sub_byte}
-use Rattle.aes.specs.Columns.{substitution}
-
-pub substitution_at : (k : ℕ) → k < 256 → get_or substitution k 0 ≡ sub_byte k
-unfolding substitution
-substitution_at k h =
-    let e : 256 ≡ suc ((255 - k) + k) = omega arith in
-    ap (λ (n : ℕ). get_or (tabulate sub_byte n) k 0) e ∙ tabulate_at sub_byte (255 - k) k
 
 -- ---- the inverse, computed quicker: a sum takes a step for each digit of its first number, here the shorter one
 quick_xtime : ℕ → ℕ
@@ -101,17 +92,9 @@ inverse_rule k p h =
     ∙ eqb→eq (times k (get_or inverses k 0)) 1 (rw (ne_eqb k 0 (λ e. omega arith)) at (entry_rule inverts inverses 0 all_invert k h))
 
 -- ---- the S-box is the affine transformation of the inverses
-get_d_map : (f : ℕ → ℕ) (l : List ℕ) (k : ℕ) → k < length l → get_or (map f l) k 0 ≡ f (get_or l k 0)
-get_d_map f [] k h = absurd (omega arith)
-get_d_map f (x ∷ l) zero h = refl
-get_d_map f (x ∷ l) (suc k) h = get_d_map f l k (omega arith)
-
-pub substitution_table : substitution ≡ map affine inverses
-unfolding substitution inverses sub_byte
-substitution_table =
-    let size : length substitution ≡ 256 = length_tabulate sub_byte 256 in
-    ext_get_or 0 substitution (map affine inverses) size
-    (λ k h. let b : k < 256 = omega arith in substitution_at k b ∙ ap affine (inverse_at k b) ∙ sym (get_d_map affine inverses k b))
+pub sub_byte_at : (k : ℕ) → k < 256 → get_or (map affine inverses) k 0 ≡ sub_byte k
+unfolding sub_byte inverses
+sub_byte_at k h = get_or-map affine inverses k 0 0 h ∙ ap affine (sym (inverse_at k h))
 
 pub inverse_zero : inverse 0 ≡ 0
 unfolding xtime product times squares inverse

@@ -1,26 +1,18 @@
 -- Inner: words between the code's functions; the archive's contracts, demand 3 and the worked cases do not rest on it.
 -- How the code holds the standard's values: a column or a word is one number of four octets, the first lowest; a state
--- or a round key is four of them; the S-box is a list. Assumes nothing.
-use Rattle.std.specs.Prelude.{ℕ, zero, suc, ◌/◌, ◌%◌, List, [], ◌∷◌, ◌++◌}
-use Rattle.octets.specs.Tabulate.{tabulate}
-use Rattle.aes.specs.Gf.{sub_byte}
+-- or a round key is a list of four of them. Assumes nothing.
+use Rattle.std.specs.Prelude.{ℕ, List, [], ◌∷◌, ◌++◌}
+use Rattle.std.specs.Int.{w32, to_le_bytes}
+use Rattle.std.specs.List.{flat_map}
 use Rattle.aes.specs.Aes.{word, xor_word, rot_word, sub_word}
-use Rattle.aes.specs.declared.Block.{Block}
 
--- octet j of a number, counted from the lowest
-unfoldable pub octet : ℕ → ℕ → ℕ
-octet zero w = w % 256
-octet (suc j) w = octet j (w / 256)
-
+-- the octets of a column or a word
 unfoldable pub four : ℕ → List ℕ
-four w = octet 0 w ∷ octet 1 w ∷ octet 2 w ∷ octet 3 w ∷ []
+four w = to_le_bytes w32 w
 
-unfoldable pub octets : Block → List ℕ
-octets s = four s.a ++ four s.b ++ four s.c ++ four s.d
-
--- the S-box, entry by entry
-unfoldable pub substitution : List ℕ
-substitution = tabulate sub_byte 256
+-- the octets of a state or a round key
+unfoldable pub octets : List ℕ → List ℕ
+octets s = flat_map four s
 
 -- the round key after the round key k, word by word: four steps of the key expansion, with the round constant r
 unfoldable pub next_key : ℕ → List ℕ → List ℕ

@@ -1,8 +1,7 @@
 -- Believed: the archive's contracts and demand 3 rest on it.
 -- Answers as document 01 has them ("Paired or failed", "What is turned back"): records with the call's kind and a body
 -- of a fixed length, read at a place. Assumes nothing.
-use Rattle.std.specs.Prelude.{ℕ, ◌+◌, ◌≤◌, Bool, true, false, cond, ◌&&◌, List, eqb, ltb, length, get_or, take, drop}
-use Rattle.std.proofs.Math.Option.{Option, none, some}
+use Rattle.std.specs.Prelude.{ℕ, ◌+◌, Bool, true, false, cond, ◌&&◌, List, eqb, ltb, length, get_or, take, drop, Option, Some, None, Result, Ok, Err}
 use Rattle.octets.specs.Octets.{from_octets, word_of}
 use Rattle.crypto.specs.Crypto.{drawn_nonce}
 use Rattle.crypto.specs.declared.crypto.IdentityResolvingKey.{IdentityResolvingKey}
@@ -10,8 +9,10 @@ use Rattle.crypto.specs.declared.crypto.LongTermKey.{LongTermKey}
 use Rattle.crypto.specs.declared.crypto.Nonce.{Nonce}
 use Rattle.types.specs.declared.types.PassKey.{PassKey}
 use Rattle.bond.specs.Bond.{address_of, verdict_error, flag_of, bond_of}
+use Rattle.bond.specs.declared.Address.{Address}
+use Rattle.bond.specs.declared.Error.{Error}
+use Rattle.bond.specs.declared.BondInformation.{BondInformation}
 use Rattle.host.specs.Calls.{kind_of, encryption_kind}
-use Rattle.bond.specs.declared.OptionBond.TheVariants as option
 use Rattle.host.specs.declared.call.Question.{Question}
 use Rattle.host.specs.declared.call.Question.TheVariants as question
 use Rattle.host.specs.declared.call.Draw.{Draw}
@@ -20,36 +21,6 @@ use Rattle.host.specs.declared.call.Call.{Call}
 use Rattle.host.specs.declared.call.Call.TheVariants as call
 use Rattle.answer.specs.declared.Stop.{Stop}
 use Rattle.answer.specs.declared.Stop.TheVariants.{Wanted, Refused}
-use Rattle.answer.specs.declared.Frame.{Frame}
-use Rattle.answer.specs.declared.Frame.TheVariants as frame
-use Rattle.answer.specs.declared.VerdictAnswer.{VerdictAnswer}
-use Rattle.answer.specs.declared.VerdictAnswer.TheVariants as verdict
-use Rattle.answer.specs.declared.FlagAnswer.{FlagAnswer}
-use Rattle.answer.specs.declared.FlagAnswer.TheVariants as flag
-use Rattle.answer.specs.declared.IrkAnswer.{IrkAnswer}
-use Rattle.answer.specs.declared.IrkAnswer.TheVariants as irk
-use Rattle.answer.specs.declared.AddressResult.{AddressResult}
-use Rattle.answer.specs.declared.AddressResult.TheVariants as address-result
-use Rattle.answer.specs.declared.AddressAnswer.{AddressAnswer}
-use Rattle.answer.specs.declared.AddressAnswer.TheVariants as address
-use Rattle.answer.specs.declared.NonceAnswer.{NonceAnswer}
-use Rattle.answer.specs.declared.NonceAnswer.TheVariants as nonce
-use Rattle.answer.specs.declared.PassKeyAnswer.{PassKeyAnswer}
-use Rattle.answer.specs.declared.PassKeyAnswer.TheVariants as passkey
-use Rattle.answer.specs.declared.LongTermKeyAnswer.{LongTermKeyAnswer}
-use Rattle.answer.specs.declared.LongTermKeyAnswer.TheVariants as ltk
-use Rattle.answer.specs.declared.EdivAnswer.{EdivAnswer}
-use Rattle.answer.specs.declared.EdivAnswer.TheVariants as ediv
-use Rattle.answer.specs.declared.RandAnswer.{RandAnswer}
-use Rattle.answer.specs.declared.RandAnswer.TheVariants as rand
-use Rattle.answer.specs.declared.BondResult.{BondResult}
-use Rattle.answer.specs.declared.BondResult.TheVariants as bond-result
-use Rattle.answer.specs.declared.EncryptionAnswer.{EncryptionAnswer}
-use Rattle.answer.specs.declared.EncryptionAnswer.TheVariants as encryption
-use Rattle.answer.specs.declared.OptionBondResult.{OptionBondResult}
-use Rattle.answer.specs.declared.OptionBondResult.TheVariants as option-result
-use Rattle.answer.specs.declared.BondedEncryptionAnswer.{BondedEncryptionAnswer}
-use Rattle.answer.specs.declared.BondedEncryptionAnswer.TheVariants as bonded
 
 -- ---- the length of the answer to each call
 
@@ -103,8 +74,8 @@ answer_refusal = 3
 
 -- a forbidden value is refused
 abbrev pub allowed : {A B : Type 0} → Option A → (A → B) → Found B
-allowed none f = refusal answer_refusal
-allowed (some a) f = found (f a)
+allowed None f = refusal answer_refusal
+allowed (Some a) f = found (f a)
 
 -- the body of the record at a place: wanted where the answers end exactly there, refused where the kind is another or
 -- the body is cut
@@ -132,10 +103,10 @@ unfoldable pub irk_at : List ℕ → ℕ → Found IdentityResolvingKey
 irk_at s at = on_found (answer_at s at (call.Ask question.LocalIrk)) (λ b. found (record { 0 = word_of b }))
 
 -- verdict, then the address, ignored after a verdict other than 0
-abbrev pub address_body : List ℕ → AddressResult
-address_body b = cond (eqb (get_or b 0 0) 0) (address-result.Ok (address_of (take 7 (drop 1 b)))) (address-result.Err (verdict_error (get_or b 0 0)))
+abbrev pub address_body : List ℕ → Result Address Error
+address_body b = cond (eqb (get_or b 0 0) 0) (Ok (address_of (take 7 (drop 1 b)))) (Err (verdict_error (get_or b 0 0)))
 
-unfoldable pub address_at : List ℕ → ℕ → Found AddressResult
+unfoldable pub address_at : List ℕ → ℕ → Found (Result Address Error)
 address_at s at = on_found (answer_at s at (call.Ask question.LocalIdentityAddress)) (λ b. found (address_body b))
 
 -- most significant octet first; 0 becomes 1
@@ -162,28 +133,28 @@ unfoldable pub rand_at : List ℕ → ℕ → Found ℕ
 rand_at s at = on_found (answer_at s at (call.Draw draw.Rand)) (λ b. found (from_octets b))
 
 -- verdict, then the bond, ignored after a verdict other than 0
-abbrev pub encryption_body : List ℕ → Found BondResult
-encryption_body b = cond (eqb (get_or b 0 0) 0) (allowed (bond_of (take 51 (drop 1 b))) bond-result.Ok) (found (bond-result.Err (verdict_error (get_or b 0 0))))
+abbrev pub encryption_body : List ℕ → Found (Result BondInformation Error)
+encryption_body b = cond (eqb (get_or b 0 0) 0) (allowed (bond_of (take 51 (drop 1 b))) Ok) (found (Err (verdict_error (get_or b 0 0))))
 
-unfoldable pub encryption_at : List ℕ → ℕ → Found BondResult
+unfoldable pub encryption_at : List ℕ → ℕ → Found (Result BondInformation Error)
 encryption_at s at = on_found (body_at s at encryption_kind encryption_length) encryption_body
 
 -- verdict, then present 0/1, ignored after a verdict other than 0, then the bond, ignored where absent
-abbrev pub present_body : List ℕ → Bool → Found OptionBondResult
-present_body b true = allowed (bond_of (take 51 (drop 2 b))) (λ bond. option-result.Ok (option.Some bond))
-present_body b false = found (option-result.Ok option.None)
+abbrev pub present_body : List ℕ → Bool → Found (Result (Option BondInformation) Error)
+present_body b true = allowed (bond_of (take 51 (drop 2 b))) (λ bond. Ok (Some bond))
+present_body b false = found (Ok None)
 
-abbrev pub on_present : List ℕ → Option Bool → Found OptionBondResult
-on_present b none = refusal answer_refusal
-on_present b (some p) = present_body b p
+abbrev pub on_present : List ℕ → Option Bool → Found (Result (Option BondInformation) Error)
+on_present b None = refusal answer_refusal
+on_present b (Some p) = present_body b p
 
-abbrev pub bonded_body : List ℕ → Found OptionBondResult
-bonded_body b = cond (eqb (get_or b 0 0) 0) (on_present b (flag_of (get_or b 1 0))) (found (option-result.Err (verdict_error (get_or b 0 0))))
+abbrev pub bonded_body : List ℕ → Found (Result (Option BondInformation) Error)
+bonded_body b = cond (eqb (get_or b 0 0) 0) (on_present b (flag_of (get_or b 1 0))) (found (Err (verdict_error (get_or b 0 0))))
 
-unfoldable pub bonded_at : List ℕ → ℕ → Found OptionBondResult
+unfoldable pub bonded_at : List ℕ → ℕ → Found (Result (Option BondInformation) Error)
 bonded_at s at = on_found (answer_at s at call.EnableBondedEncryption) bonded_body
 
--- ---- the code's cases
+-- ---- what a reader of the code gives
 
 -- why there is no answer: the step wants one, or it is refused by 3
 abbrev pub stop_found : {A : Type 0} → Stop → Found A
@@ -196,55 +167,7 @@ stop_of (found a) = Wanted
 stop_of wanted = Wanted
 stop_of (refusal n) = Refused
 
-abbrev pub framed : List ℕ → ℕ → Frame → Found (List ℕ)
-framed s size (frame.Body b) = found (take size (drop b s))
-framed s size (frame.Stop e) = stop_found e
-
--- a body that was found lies within the answers
-abbrev pub Within : List ℕ → ℕ → Frame → Type 0
-Within s size (frame.Body b) = b + size ≤ length s
-Within s size (frame.Stop e) = Unit {0}
-
-abbrev pub verdict_answer : VerdictAnswer → Found ℕ
-verdict_answer (verdict.Verdict a) = found a
-verdict_answer (verdict.Stop e) = stop_found e
-
-abbrev pub flag_answer : FlagAnswer → Found Bool
-flag_answer (flag.Flag a) = found a
-flag_answer (flag.Stop e) = stop_found e
-
-abbrev pub irk_answer : IrkAnswer → Found IdentityResolvingKey
-irk_answer (irk.Irk a) = found a
-irk_answer (irk.Stop e) = stop_found e
-
-abbrev pub address_answer : AddressAnswer → Found AddressResult
-address_answer (address.Address a) = found a
-address_answer (address.Stop e) = stop_found e
-
-abbrev pub nonce_answer : NonceAnswer → Found Nonce
-nonce_answer (nonce.Nonce a) = found a
-nonce_answer (nonce.Stop e) = stop_found e
-
-abbrev pub pass_key_answer : PassKeyAnswer → Found PassKey
-pass_key_answer (passkey.PassKey a) = found a
-pass_key_answer (passkey.Stop e) = stop_found e
-
-abbrev pub ltk_answer : LongTermKeyAnswer → Found LongTermKey
-ltk_answer (ltk.LongTermKey a) = found a
-ltk_answer (ltk.Stop e) = stop_found e
-
-abbrev pub ediv_answer : EdivAnswer → Found ℕ
-ediv_answer (ediv.Ediv a) = found a
-ediv_answer (ediv.Stop e) = stop_found e
-
-abbrev pub rand_answer : RandAnswer → Found ℕ
-rand_answer (rand.Rand a) = found a
-rand_answer (rand.Stop e) = stop_found e
-
-abbrev pub encryption_answer : EncryptionAnswer → Found BondResult
-encryption_answer (encryption.Encryption a) = found a
-encryption_answer (encryption.Stop e) = stop_found e
-
-abbrev pub bonded_answer : BondedEncryptionAnswer → Found OptionBondResult
-bonded_answer (bonded.BondedEncryption a) = found a
-bonded_answer (bonded.Stop e) = stop_found e
+-- an answer, or why there is none
+abbrev pub found_of : {A : Type 0} → Result A Stop → Found A
+found_of (Ok a) = found a
+found_of (Err e) = stop_found e

@@ -1,426 +1,174 @@
-// Answers: records of one octet of kind, the call's, and a body whose length the kind fixes; read at a place. The first
-// case of each is the answer, the second why there is none.
+// Answers: records of one octet of kind, the call's, and a body whose length the kind fixes; read at a place. An Err says
+// why there is no answer.
 #![tactic(auto)]
 
-ghost use Rattle.std.specs.Prelude.{◌≡◌};
+ghost use Rattle.std.specs.Prelude.{◌≡◌, ◌+◌, ◌≤◌, IfOk, IfErr, OnOk, length};
 ghost use Rattle.host.specs.Calls.{question_kind};
-ghost use Rattle.answer.specs.Answers.{body_at, framed, verdict_at, flag_at, irk_at, address_at, nonce_at, pass_key_at, ltk_at, ediv_at, rand_at, encryption_at, bonded_at};
-ghost use Rattle.answer.specs.Answers.{verdict_answer, flag_answer, irk_answer, address_answer, nonce_answer, pass_key_answer};
-ghost use Rattle.answer.specs.Answers.{ltk_answer, ediv_answer, rand_answer, encryption_answer, bonded_answer, Within, stop_of};
+ghost use Rattle.answer.specs.Answers.{found, found_of, stop_found, body_at, verdict_at, flag_at, irk_at, address_at, nonce_at};
+ghost use Rattle.answer.specs.Answers.{pass_key_at, ltk_at, ediv_at, rand_at, encryption_at, bonded_at};
 
-use bond::{
-    Address, BondInformation, Error, OptionBond, TryBond, TryFlag, read_address, read_bond,
-    read_flag,
-};
+use bond::{Address, BondInformation, Error, read_address, read_bond, read_flag};
 use crypto::{IdentityResolvingKey, LongTermKey, Nonce};
 use host::{Draw, Question};
-use octets::{read_16, read_u16, read_u32, read_u64, read_word};
+use octets::{octets_at, read, read_word};
 use types::PassKey;
 
 // Why there is no answer: the answers end here, or what is here is refused by 3.
-#[derive(Clone, Copy)]
+#[derive(Clone, Copy, PartialEq, Eq)]
 pub enum Stop {
     Wanted,
     Refused,
 }
 
-// The place of an answer's body.
-#[derive(Clone, Copy)]
-enum Frame {
-    Body(usize),
-    Stop(Stop),
-}
-
-// A verdict: 0 done, 1 out of memory, others a host error.
-#[derive(Clone, Copy)]
-pub enum VerdictAnswer {
-    Verdict(u8),
-    Stop(Stop),
-}
-
-#[derive(Clone, Copy)]
-pub enum FlagAnswer {
-    Flag(bool),
-    Stop(Stop),
-}
-
-#[derive(Clone, Copy)]
-pub enum IrkAnswer {
-    Irk(IdentityResolvingKey),
-    Stop(Stop),
-}
-
-#[derive(Clone, Copy)]
-pub enum AddressResult {
-    Ok(Address),
-    Err(Error),
-}
-
-#[derive(Clone, Copy)]
-pub enum AddressAnswer {
-    Address(AddressResult),
-    Stop(Stop),
-}
-
-#[derive(Clone, Copy)]
-pub enum NonceAnswer {
-    Nonce(Nonce),
-    Stop(Stop),
-}
-
-#[derive(Clone, Copy)]
-pub enum PassKeyAnswer {
-    PassKey(PassKey),
-    Stop(Stop),
-}
-
-#[derive(Clone, Copy)]
-pub enum LongTermKeyAnswer {
-    LongTermKey(LongTermKey),
-    Stop(Stop),
-}
-
-#[derive(Clone, Copy)]
-pub enum EdivAnswer {
-    Ediv(u16),
-    Stop(Stop),
-}
-
-#[derive(Clone, Copy)]
-pub enum RandAnswer {
-    Rand(u64),
-    Stop(Stop),
-}
-
-#[derive(Clone, Copy)]
-pub enum BondResult {
-    Ok(BondInformation),
-    Err(Error),
-}
-
-#[derive(Clone, Copy)]
-pub enum EncryptionAnswer {
-    Encryption(BondResult),
-    Stop(Stop),
-}
-
-#[derive(Clone, Copy)]
-pub enum OptionBondResult {
-    Ok(OptionBond),
-    Err(Error),
-}
-
-#[derive(Clone, Copy)]
-pub enum BondedEncryptionAnswer {
-    BondedEncryption(OptionBondResult),
-    Stop(Stop),
-}
-
-impl VerdictAnswer {
-    // Why there is no answer; Wanted where there is one.
-    pub fn stop(self) -> Stop
-        ensures { result ≡ stop_of (verdict_answer self) }
-    {
-        match self {
-            VerdictAnswer::Verdict(_) => Stop::Wanted,
-            VerdictAnswer::Stop(stop) => stop,
-        }
-    }
-}
-
-impl FlagAnswer {
-    // Why there is no answer; Wanted where there is one.
-    pub fn stop(self) -> Stop
-        ensures { result ≡ stop_of (flag_answer self) }
-    {
-        match self {
-            FlagAnswer::Flag(_) => Stop::Wanted,
-            FlagAnswer::Stop(stop) => stop,
-        }
-    }
-}
-
-impl IrkAnswer {
-    // Why there is no answer; Wanted where there is one.
-    pub fn stop(self) -> Stop
-        ensures { result ≡ stop_of (irk_answer self) }
-    {
-        match self {
-            IrkAnswer::Irk(_) => Stop::Wanted,
-            IrkAnswer::Stop(stop) => stop,
-        }
-    }
-}
-
-impl AddressAnswer {
-    // Why there is no answer; Wanted where there is one.
-    pub fn stop(self) -> Stop
-        ensures { result ≡ stop_of (address_answer self) }
-    {
-        match self {
-            AddressAnswer::Address(_) => Stop::Wanted,
-            AddressAnswer::Stop(stop) => stop,
-        }
-    }
-}
-
-impl NonceAnswer {
-    // Why there is no answer; Wanted where there is one.
-    pub fn stop(self) -> Stop
-        ensures { result ≡ stop_of (nonce_answer self) }
-    {
-        match self {
-            NonceAnswer::Nonce(_) => Stop::Wanted,
-            NonceAnswer::Stop(stop) => stop,
-        }
-    }
-}
-
-impl PassKeyAnswer {
-    // Why there is no answer; Wanted where there is one.
-    pub fn stop(self) -> Stop
-        ensures { result ≡ stop_of (pass_key_answer self) }
-    {
-        match self {
-            PassKeyAnswer::PassKey(_) => Stop::Wanted,
-            PassKeyAnswer::Stop(stop) => stop,
-        }
-    }
-}
-
-impl LongTermKeyAnswer {
-    // Why there is no answer; Wanted where there is one.
-    pub fn stop(self) -> Stop
-        ensures { result ≡ stop_of (ltk_answer self) }
-    {
-        match self {
-            LongTermKeyAnswer::LongTermKey(_) => Stop::Wanted,
-            LongTermKeyAnswer::Stop(stop) => stop,
-        }
-    }
-}
-
-impl EdivAnswer {
-    // Why there is no answer; Wanted where there is one.
-    pub fn stop(self) -> Stop
-        ensures { result ≡ stop_of (ediv_answer self) }
-    {
-        match self {
-            EdivAnswer::Ediv(_) => Stop::Wanted,
-            EdivAnswer::Stop(stop) => stop,
-        }
-    }
-}
-
-impl RandAnswer {
-    // Why there is no answer; Wanted where there is one.
-    pub fn stop(self) -> Stop
-        ensures { result ≡ stop_of (rand_answer self) }
-    {
-        match self {
-            RandAnswer::Rand(_) => Stop::Wanted,
-            RandAnswer::Stop(stop) => stop,
-        }
-    }
-}
-
-impl EncryptionAnswer {
-    // Why there is no answer; Wanted where there is one.
-    pub fn stop(self) -> Stop
-        ensures { result ≡ stop_of (encryption_answer self) }
-    {
-        match self {
-            EncryptionAnswer::Encryption(_) => Stop::Wanted,
-            EncryptionAnswer::Stop(stop) => stop,
-        }
-    }
-}
-
-impl BondedEncryptionAnswer {
-    // Why there is no answer; Wanted where there is one.
-    pub fn stop(self) -> Stop
-        ensures { result ≡ stop_of (bonded_answer self) }
-    {
-        match self {
-            BondedEncryptionAnswer::BondedEncryption(_) => Stop::Wanted,
-            BondedEncryptionAnswer::Stop(stop) => stop,
-        }
-    }
-}
-
 // The body at a place: wanted where the answers end there; refused where the kind is another or the body is cut.
-fn frame_at(answers: &[u8], at: usize, kind: u8, size: usize) -> Frame
-    ensures { (framed answers.now size result ≡ body_at answers.now at kind size) × Within answers.now size result }
+#[tactic(auto, unfolding(crate::specs::Answers::body_at))]
+fn body_at(answers: &[u8], at: usize, kind: u8, size: usize) -> Result<&[u8], Stop>
+    ensures found { IfOk result (λ body. found body.now ≡ body_at answers.now at kind size) }
+    ensures size { IfOk result (λ body. length body.now ≡ size) }
+    ensures within { OnOk result (at + (1 + size) ≤ length answers.now) }
+    ensures stop { IfErr result (λ stop. stop_found stop ≡ body_at answers.now at kind size) }
 {
-    let len = answers.len();
-    if at == len {
-        return Frame::Stop(Stop::Wanted);
+    match answers.get(at..) {
+        Some([]) => Err(Stop::Wanted),
+        Some([octet, body @ ..]) if *octet == kind && size <= body.len() => Ok(&body[..size]),
+        _ => Err(Stop::Refused),
     }
-    if len < at {
-        return Frame::Stop(Stop::Refused);
-    }
-    if answers[at] != kind {
-        return Frame::Stop(Stop::Refused);
-    }
-    if len - at <= size {
-        return Frame::Stop(Stop::Refused);
-    }
-    Frame::Body(at + 1)
 }
 
 // The verdict on a packet, an event or an update of the bond, whose call has this kind.
-pub fn read_verdict(answers: &[u8], at: usize, kind: u8) -> VerdictAnswer
-    ensures { verdict_answer result ≡ verdict_at answers.now at kind }
+#[tactic(auto, unfolding(crate::specs::Answers::verdict_at))]
+pub fn read_verdict(answers: &[u8], at: usize, kind: u8) -> Result<u8, Stop>
+    ensures answer { found_of result ≡ verdict_at answers.now at kind }
+    ensures within { OnOk result (at + 2 ≤ length answers.now) }
 {
-    match frame_at(answers, at, kind, 1) {
-        Frame::Body(b) => VerdictAnswer::Verdict(answers[b]),
-        Frame::Stop(stop) => VerdictAnswer::Stop(stop),
-    }
+    let body = body_at(answers, at, kind, 1)?;
+    Ok(body[0])
 }
 
 // The yes or no to a question.
-pub fn read_yes_no(answers: &[u8], at: usize, question: Question) -> FlagAnswer
-    ensures { flag_answer result ≡ flag_at answers.now at (question_kind question) }
+#[tactic(auto, unfolding(crate::specs::Answers::flag_at))]
+pub fn read_yes_no(answers: &[u8], at: usize, question: Question) -> Result<bool, Stop>
+    ensures answer { found_of result ≡ flag_at answers.now at (question_kind question) }
+    ensures within { OnOk result (at + 2 ≤ length answers.now) }
 {
-    match frame_at(answers, at, question.kind(), 1) {
-        Frame::Body(b) => match read_flag(answers[b]) {
-            TryFlag::Ok(yes) => FlagAnswer::Flag(yes),
-            TryFlag::InvalidValue => FlagAnswer::Stop(Stop::Refused),
-        },
-        Frame::Stop(stop) => FlagAnswer::Stop(stop),
-    }
+    let body = body_at(answers, at, question.kind(), 1)?;
+    read_flag(body[0]).ok_or(Stop::Refused)
 }
 
-pub fn read_irk(answers: &[u8], at: usize) -> IrkAnswer
-    ensures { irk_answer result ≡ irk_at answers.now at }
+#[tactic(auto, unfolding(crate::specs::Answers::irk_at))]
+pub fn read_irk(answers: &[u8], at: usize) -> Result<IdentityResolvingKey, Stop>
+    ensures answer { found_of result ≡ irk_at answers.now at }
+    ensures within { OnOk result (at + 17 ≤ length answers.now) }
 {
-    match frame_at(answers, at, Question::LocalIrk.kind(), 16) {
-        Frame::Body(b) => IrkAnswer::Irk(IdentityResolvingKey(read_word(answers, b))),
-        Frame::Stop(stop) => IrkAnswer::Stop(stop),
-    }
+    let body = body_at(answers, at, Question::LocalIrk.kind(), 16)?;
+    Ok(IdentityResolvingKey(read_word(body, 0)))
 }
 
 // Verdict, then the identity address, which a verdict other than 0 leaves out.
-pub fn read_identity_address(answers: &[u8], at: usize) -> AddressAnswer
-    ensures { address_answer result ≡ address_at answers.now at }
+#[tactic(auto, unfolding(crate::specs::Answers::address_at))]
+pub fn read_identity_address(answers: &[u8], at: usize) -> Result<Result<Address, Error>, Stop>
+    ensures answer { found_of result ≡ address_at answers.now at }
+    ensures within { OnOk result (at + 9 ≤ length answers.now) }
 {
-    match frame_at(answers, at, Question::LocalIdentityAddress.kind(), 8) {
-        Frame::Body(b) => {
-            let verdict = answers[b];
-            if verdict == 0 {
-                AddressAnswer::Address(AddressResult::Ok(read_address(answers, b + 1)))
-            } else {
-                AddressAnswer::Address(AddressResult::Err(Error::from_verdict(verdict)))
-            }
-        }
-        Frame::Stop(stop) => AddressAnswer::Stop(stop),
+    let body = body_at(answers, at, Question::LocalIdentityAddress.kind(), 8)?;
+    let verdict = body[0];
+    if verdict != 0 {
+        return Ok(Err(Error::from_verdict(verdict)));
     }
+    Ok(Ok(read_address(body, 1)))
 }
 
-pub fn read_nonce(answers: &[u8], at: usize) -> NonceAnswer
-    ensures { nonce_answer result ≡ nonce_at answers.now at }
+#[tactic(auto, unfolding(crate::specs::Answers::nonce_at))]
+pub fn read_nonce(answers: &[u8], at: usize) -> Result<Nonce, Stop>
+    ensures answer { found_of result ≡ nonce_at answers.now at }
+    ensures within { OnOk result (at + 17 ≤ length answers.now) }
 {
-    match frame_at(answers, at, Draw::Nonce.kind(), 16) {
-        Frame::Body(b) => {
-            let drawn = read_16(answers, b);
-            NonceAnswer::Nonce(Nonce::new(drawn))
-        }
-        Frame::Stop(stop) => NonceAnswer::Stop(stop),
-    }
+    let body = body_at(answers, at, Draw::Nonce.kind(), 16)?;
+    Ok(Nonce::new(octets_at(body, 0)))
 }
 
 // The largest passkey that is drawn.
 const PASSKEY_MAX: u32 = 999999;
 
-pub fn read_passkey(answers: &[u8], at: usize) -> PassKeyAnswer
-    ensures { pass_key_answer result ≡ pass_key_at answers.now at }
+#[tactic(auto, unfolding(crate::specs::Answers::pass_key_at))]
+pub fn read_passkey(answers: &[u8], at: usize) -> Result<PassKey, Stop>
+    ensures answer { found_of result ≡ pass_key_at answers.now at }
+    ensures within { OnOk result (at + 5 ≤ length answers.now) }
 {
-    match frame_at(answers, at, Draw::PassKey.kind(), 4) {
-        Frame::Body(b) => {
-            let drawn = read_u32(answers, b);
-            if PASSKEY_MAX < drawn {
-                PassKeyAnswer::Stop(Stop::Refused)
-            } else {
-                PassKeyAnswer::PassKey(PassKey(drawn))
-            }
-        }
-        Frame::Stop(stop) => PassKeyAnswer::Stop(stop),
+    let body = body_at(answers, at, Draw::PassKey.kind(), 4)?;
+    let drawn = read::<u32, 4>(body, 0);
+    if PASSKEY_MAX < drawn {
+        return Err(Stop::Refused);
     }
+    Ok(PassKey(drawn))
 }
 
-pub fn read_ltk(answers: &[u8], at: usize) -> LongTermKeyAnswer
-    ensures { ltk_answer result ≡ ltk_at answers.now at }
+#[tactic(auto, unfolding(crate::specs::Answers::ltk_at))]
+pub fn read_ltk(answers: &[u8], at: usize) -> Result<LongTermKey, Stop>
+    ensures answer { found_of result ≡ ltk_at answers.now at }
+    ensures within { OnOk result (at + 17 ≤ length answers.now) }
 {
-    match frame_at(answers, at, Draw::LongTermKey.kind(), 16) {
-        Frame::Body(b) => LongTermKeyAnswer::LongTermKey(LongTermKey(read_word(answers, b))),
-        Frame::Stop(stop) => LongTermKeyAnswer::Stop(stop),
-    }
+    let body = body_at(answers, at, Draw::LongTermKey.kind(), 16)?;
+    Ok(LongTermKey(read_word(body, 0)))
 }
 
-pub fn read_ediv(answers: &[u8], at: usize) -> EdivAnswer
-    ensures { ediv_answer result ≡ ediv_at answers.now at }
+#[tactic(auto, unfolding(crate::specs::Answers::ediv_at))]
+pub fn read_ediv(answers: &[u8], at: usize) -> Result<u16, Stop>
+    ensures answer { found_of result ≡ ediv_at answers.now at }
+    ensures within { OnOk result (at + 3 ≤ length answers.now) }
 {
-    match frame_at(answers, at, Draw::Ediv.kind(), 2) {
-        Frame::Body(b) => EdivAnswer::Ediv(read_u16(answers, b)),
-        Frame::Stop(stop) => EdivAnswer::Stop(stop),
-    }
+    let body = body_at(answers, at, Draw::Ediv.kind(), 2)?;
+    Ok(read::<u16, 2>(body, 0))
 }
 
-pub fn read_rand(answers: &[u8], at: usize) -> RandAnswer
-    ensures { rand_answer result ≡ rand_at answers.now at }
+#[tactic(auto, unfolding(crate::specs::Answers::rand_at))]
+pub fn read_rand(answers: &[u8], at: usize) -> Result<u64, Stop>
+    ensures answer { found_of result ≡ rand_at answers.now at }
+    ensures within { OnOk result (at + 9 ≤ length answers.now) }
 {
-    match frame_at(answers, at, Draw::Rand.kind(), 8) {
-        Frame::Body(b) => RandAnswer::Rand(read_u64(answers, b)),
-        Frame::Stop(stop) => RandAnswer::Stop(stop),
-    }
+    let body = body_at(answers, at, Draw::Rand.kind(), 8)?;
+    Ok(read::<u64, 8>(body, 0))
 }
+
+// The kind of the call EnableEncryption.
+const ENCRYPTION_KIND: u8 = 0x3A;
+
+// The kind of the call EnableBondedEncryption.
+const BONDED_KIND: u8 = 0x3B;
 
 // Verdict, then the bond, which a verdict other than 0 leaves out.
-pub fn read_encryption(answers: &[u8], at: usize) -> EncryptionAnswer
-    ensures { encryption_answer result ≡ encryption_at answers.now at }
+#[tactic(auto, unfolding(crate::specs::Answers::encryption_at))]
+pub fn read_encryption(answers: &[u8], at: usize) -> Result<Result<BondInformation, Error>, Stop>
+    ensures answer { found_of result ≡ encryption_at answers.now at }
+    ensures within { OnOk result (at + 53 ≤ length answers.now) }
 {
-    match frame_at(answers, at, 0x3A, 52) {
-        Frame::Body(b) => {
-            let verdict = answers[b];
-            if verdict != 0 {
-                return EncryptionAnswer::Encryption(BondResult::Err(Error::from_verdict(verdict)));
-            }
-            match read_bond(answers, b + 1) {
-                TryBond::Ok(bond) => EncryptionAnswer::Encryption(BondResult::Ok(bond)),
-                TryBond::InvalidValue => EncryptionAnswer::Stop(Stop::Refused),
-            }
-        }
-        Frame::Stop(stop) => EncryptionAnswer::Stop(stop),
+    let body = body_at(answers, at, ENCRYPTION_KIND, 52)?;
+    let verdict = body[0];
+    if verdict != 0 {
+        return Ok(Err(Error::from_verdict(verdict)));
     }
+    let bond = read_bond(body, 1).ok_or(Stop::Refused)?;
+    Ok(Ok(bond))
 }
 
 // Verdict, then present 0/1, which a verdict other than 0 leaves out, then the bond, which absence leaves out.
-pub fn read_bonded_encryption(answers: &[u8], at: usize) -> BondedEncryptionAnswer
-    ensures { bonded_answer result ≡ bonded_at answers.now at }
+#[tactic(auto, unfolding(crate::specs::Answers::bonded_at))]
+pub fn read_bonded_encryption(
+    answers: &[u8],
+    at: usize,
+) -> Result<Result<Option<BondInformation>, Error>, Stop>
+    ensures answer { found_of result ≡ bonded_at answers.now at }
+    ensures within { OnOk result (at + 54 ≤ length answers.now) }
 {
-    match frame_at(answers, at, 0x3B, 53) {
-        Frame::Body(b) => {
-            let verdict = answers[b];
-            if verdict != 0 {
-                return BondedEncryptionAnswer::BondedEncryption(OptionBondResult::Err(
-                    Error::from_verdict(verdict),
-                ));
-            }
-            let TryFlag::Ok(present) = read_flag(answers[b + 1]) else {
-                return BondedEncryptionAnswer::Stop(Stop::Refused);
-            };
-            if !present {
-                return BondedEncryptionAnswer::BondedEncryption(OptionBondResult::Ok(
-                    OptionBond::None,
-                ));
-            }
-            match read_bond(answers, b + 2) {
-                TryBond::Ok(bond) => BondedEncryptionAnswer::BondedEncryption(OptionBondResult::Ok(
-                    OptionBond::Some(bond),
-                )),
-                TryBond::InvalidValue => BondedEncryptionAnswer::Stop(Stop::Refused),
-            }
-        }
-        Frame::Stop(stop) => BondedEncryptionAnswer::Stop(stop),
+    let body = body_at(answers, at, BONDED_KIND, 53)?;
+    let verdict = body[0];
+    if verdict != 0 {
+        return Ok(Err(Error::from_verdict(verdict)));
     }
+    let present = read_flag(body[1]).ok_or(Stop::Refused)?;
+    if !present {
+        return Ok(Ok(None));
+    }
+    let bond = read_bond(body, 2).ok_or(Stop::Refused)?;
+    Ok(Ok(Some(bond)))
 }

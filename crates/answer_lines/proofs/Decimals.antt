@@ -4,14 +4,12 @@ use mathlib.Core.Path.{◌≡◌, refl, sym, ap, ◌∙◌}
 use mathlib.Core.Logic.{◌⊎◌, inl, inr, ⊎_elim}
 use mathlib.Core.Bool.{Bool, true, false}
 use mathlib.Core.List.{List, [], ◌∷◌, ◌++◌, append_assoc}
-use Prim.Native.Nat.{ℕ, zero, suc, ◌+◌, ◌-◌, ◌/◌, ◌%◌, ◌≤◌, ◌<◌}
+use Prim.Native.Nat.{ℕ, zero, suc, ◌+◌, ◌/◌, ◌%◌, ◌≤◌, ◌<◌}
 use native.Mathlib.Omega.{arith}
 use lib.Dec.{ltb}
-use lib.ListN.{length, drop, set, length-set}
 use borrow.Author.Tests.{lt-ltb, le-ltb, ltb-true, ltb-false}
 use Rattle.answer_lines.specs.AnswerLines.{decimal_in, decimal}
 use Rattle.lines.proofs.Values.{ten_to}
-use Rattle.answer_lines.proofs.Texts.{character_in_front}
 
 one_digit : (k n : ℕ) → n < 10 → decimal_in (suc k) n ≡ (48 + n) ∷ []
 unfolding decimal_in
@@ -60,54 +58,46 @@ decimal_digits n h = go n h
 
 -- ---- digits that are written from the last one on
 
--- n is written in front of place at₀, with so many places left for what rest still has
-pub record DecimalPut (n : ℕ) (octets₀ : List ℕ) (at₀ : ℕ) (octets : List ℕ) (at rest : ℕ) : Type 0 where
-  pub size : length octets ≡ length octets₀
+-- n is written in front of a text that begins at place at₀, with so many places left for what rest still has
+pub record DecimalPut (n : ℕ) (text₀ : List ℕ) (at₀ : ℕ) (text : List ℕ) (at rest : ℕ) : Type 0 where
   pub places : ℕ
   pub enough_places : rest < ten_to places
   pub some_place : 1 ≤ places
   pub from : at₀ + places ≡ at + 20
-  pub before : at ≤ at₀
-  pub text : decimal n ++ drop at₀ octets₀ ≡ decimal rest ++ drop at octets
+  pub same : decimal n ++ text₀ ≡ decimal rest ++ text
 
 -- all that fits 64 bits has 20 digits
-pub none_put : (n : ℕ) (octets₀ : List ℕ) (at₀ : ℕ) → n < 18446744073709551616 → DecimalPut n octets₀ at₀ octets₀ at₀ n
-none_put n octets₀ at₀ h = record { size = refl; places = 20; enough_places = omega arith; some_place = omega arith; from = refl; before = omega arith; text = refl }
+pub none_put : (n : ℕ) (text₀ : List ℕ) (at₀ : ℕ) → n < 18446744073709551616 → DecimalPut n text₀ at₀ text₀ at₀ n
+none_put n text₀ at₀ h = record { places = 20; enough_places = omega arith; some_place = omega arith; from = refl; same = refl }
 
 fewer : (k rest : ℕ) → 10 ≤ rest → rest < ten_to k → 1 ≤ k → (j : ℕ) × (suc j ≡ k) × (rest / 10 < ten_to j) × (1 ≤ j)
 fewer zero rest a b h = absurd (omega arith)
 fewer (suc zero) rest a b h = absurd (omega arith)
 fewer (suc (suc j)) rest a b h = (suc j, refl, omega arith, omega arith)
 
-module _ {n : ℕ} {octets₀ : List ℕ} {at₀ : ℕ} {octets : List ℕ} {at rest : ℕ} (w : DecimalPut n octets₀ at₀ octets at rest) (low : 20 ≤ at₀) (high : at₀ ≤ length octets₀) where
-  pub a_place : 1 ≤ at
-  a_place = let f = w.from in let p = w.some_place in omega arith
+module _ {n : ℕ} {text₀ : List ℕ} {at₀ : ℕ} {text : List ℕ} {at rest : ℕ} (w : DecimalPut n text₀ at₀ text at rest) where
+  pub a_place : 20 ≤ at₀ → 1 ≤ at
+  a_place low = let f = w.from in let p = w.some_place in omega arith
 
-  pub put_digit : 10 ≤ rest → DecimalPut n octets₀ at₀ (set octets (at - 1) (48 + rest % 10)) (at - 1) (rest / 10)
-  put_digit h =
+  pub put_digit : {text' : List ℕ} (at' : ℕ) → 10 ≤ rest → text' ≡ (48 + rest % 10) ∷ text → at' + 1 ≡ at → DecimalPut n text₀ at₀ text' at' (rest / 10)
+  put_digit at' h e p =
       let k = fewer w.places rest h w.enough_places w.some_place in
-      let e = k.1 in
+      let m = k.1 in
       let f = w.from in
-      let b = w.before in
-      let s = w.size in
-      let d : ℕ = 48 + rest % 10 in
       record {
-        size = length-set octets (at - 1) d ∙ s;
         places = k.0;
         enough_places = k.2;
         some_place = k.3;
         from = omega arith;
-        before = omega arith;
-        text =
-            w.text
-            ∙ ap (λ (l : List ℕ). l ++ drop at octets) (decimal_digits rest h)
-            ∙ append_assoc (decimal (rest / 10)) (d ∷ []) (drop at octets)
-            ∙ ap (λ (l : List ℕ). decimal (rest / 10) ++ l) (sym (character_in_front octets at d a_place (omega arith)));
+        same =
+            w.same
+            ∙ ap (λ (l : List ℕ). l ++ text) (decimal_digits rest h)
+            ∙ append_assoc (decimal (rest / 10)) ((48 + rest % 10) ∷ []) text
+            ∙ ap (λ (l : List ℕ). decimal (rest / 10) ++ l) (sym e);
       }
 
-  pub put_last : rest < 10 → drop (at - 1) (set octets (at - 1) (48 + rest)) ≡ decimal n ++ drop at₀ octets₀
-  put_last h =
-      let b = w.before in
-      let s = w.size in
-      character_in_front octets at (48 + rest) a_place (omega arith)
-      ∙ sym (w.text ∙ ap (λ (l : List ℕ). l ++ drop at octets) (decimal_digit rest h))
+  pub put_last : {text' : List ℕ} → rest < 10 → text' ≡ (48 + rest) ∷ text → text' ≡ decimal n ++ text₀
+  put_last h e = e ∙ sym (w.same ∙ ap (λ (l : List ℕ). l ++ text) (decimal_digit rest h))
+
+  pub places_left : at₀ ≤ at + 19
+  places_left = let f = w.from in let p = w.some_place in omega arith

@@ -1,16 +1,15 @@
 -- Laws of the texts that are written. Assumes nothing.
 use mathlib.Core.Path.{◌≡◌, refl, sym, ap, ◌∙◌}
 use mathlib.Core.List.{List, [], ◌∷◌, ◌++◌, append_assoc, append-nil}
-use Prim.Native.Nat.{ℕ, suc, ◌+◌, ◌*◌, ◌-◌, ◌/◌, ◌%◌, ◌≤◌, ◌<◌}
+use Prim.Native.Nat.{ℕ, ◌+◌, ◌*◌, ◌/◌, ◌%◌, ◌≤◌, ◌<◌}
 use native.Mathlib.Numerals.{add-one}
 use native.Mathlib.Omega.{arith}
 use lib.ListN.{length, get_or, take, drop, set, length-append, length-drop, drop_of_length-le}
-use lib.Seq.{take_all, take-suc, drop_at, set_at, set_split, length-take-le}
+use lib.Seq.{take_all, take-suc, drop_at, set_at, length-take-le}
 use Rattle.octets.specs.Octets.{write_at}
 use Rattle.octets.proofs.Parts.{written}
 use Rattle.record.proofs.Pieces.{two, four}
 use Rattle.record.specs.Record.{machine_octets}
-use Rattle.record.proofs.Sizes.{record_length}
 use Rattle.protocol.specs.declared.Stepped.{Stepped}
 use Rattle.answer_lines.specs.AnswerLines.{digit_text, digits_text, octets_text, head_text, rest_text, answer_text}
 use Rattle.lines.proofs.Digits.{two_digits}
@@ -34,6 +33,11 @@ pub octets_at_least : (o : List ℕ) → 2 * length o ≤ length (octets_text o)
 unfolding octets_text
 octets_at_least [] = omega arith
 octets_at_least (x ∷ o) = let n = digits_length (x ∷ o) in omega arith
+
+pub octets_at_most : (o : List ℕ) → length (octets_text o) ≤ 2 * length o + 1
+unfolding octets_text
+octets_at_most [] = omega arith
+octets_at_most (x ∷ o) = let n = digits_length (x ∷ o) in omega arith
 
 digits_one_more : (o : List ℕ) (x : ℕ) → digits_text (o ++ (x ∷ [])) ≡ digits_text o ++ (digit_text (x / 16) ∷ digit_text (x % 16) ∷ [])
 unfolding digits_text
@@ -98,13 +102,6 @@ word_in_front o w at to e h =
     ∙ drop_at (take at o) (w ++ drop (at + length w) o) at (length-take-le at o (omega arith))
     ∙ ap (λ (n : ℕ). w ++ drop n o) e
 
--- a character in front
-pub character_in_front : (o : List ℕ) (at x : ℕ) → 1 ≤ at → at ≤ length o → drop (at - 1) (set o (at - 1) x) ≡ x ∷ drop at o
-character_in_front o at x h k =
-    let i : ℕ = at - 1 in
-    let e : suc i ≡ at = omega arith in
-    ap (drop i) (set_split o i x (omega arith)) ∙ drop_at (take i o) (x ∷ drop (suc i) o) i (length-take-le i o (omega arith)) ∙ ap (λ (n : ℕ). x ∷ drop n o) e
-
 -- ---- five pieces that are written one behind the other are written as one
 
 pub five : (s : List ℕ)
@@ -121,10 +118,9 @@ five s i a e1 j p b e2 k q c e3 m r d e4 n t e e5 h =
 
 -- ---- how long an answer is
 
-module _ (s : Stepped) (list : List ℕ) (preq : length s.machine.confirm_data.preq ≡ 7) (pres : length s.machine.confirm_data.pres ≡ 7) where
-  pub answer_length_lem : length (answer_text s list) ≡ length (head_text s.outcome s.read s.written) + (324 + length (octets_text list))
-  unfolding answer_text rest_text
-  answer_length_lem =
-      let m = record_length s.machine preq pres in
-      let n = octets_length (machine_octets s.machine) (λ e. omega arith) in
-      simp length-append (omega arith)
+pub answer_length_lem : (s : Stepped) (list : List ℕ) → length (machine_octets s.machine) ≡ 161
+    → length (answer_text s list) ≡ length (head_text s.outcome s.read s.written) + (324 + length (octets_text list))
+unfolding answer_text rest_text
+answer_length_lem s list m =
+    let n = octets_length (machine_octets s.machine) (λ e. omega arith) in
+    simp length-append (omega arith)

@@ -1,16 +1,14 @@
 -- Inner: words between the code's functions; the archive's contracts, demand 3 and the worked cases do not rest on it.
 -- The answer to a step line, OUTCOME READ WRITTEN MACHINE LIST, with its line feed. Assumes nothing.
-use Rattle.std.specs.Prelude.{ℕ, zero, suc, ◌+◌, ◌-◌, ◌≤◌, ◌/◌, ◌%◌, ◌≡◌, cond, List, [], ◌∷◌, ◌++◌, ltb, length, drop}
+use Rattle.std.specs.Prelude.{ℕ, zero, suc, ◌+◌, ◌-◌, ◌/◌, ◌%◌, ◌≡◌, cond, List, [], ◌∷◌, ◌++◌, ltb, length, Option, Some, None}
 use Rattle.octets.specs.Octets.{fits_at, write_at}
 use Rattle.machine.specs.declared.Machine.{Machine}
 use Rattle.record.specs.Record.{machine_octets}
+use Rattle.protocol.specs.Refusals.{refusal_number}
 use Rattle.protocol.specs.declared.Outcome.{Outcome}
 use Rattle.protocol.specs.declared.Outcome.TheVariants as outcome
 use Rattle.protocol.specs.declared.Stepped.{Stepped}
 use Rattle.lines.specs.Text.{line_feed, space, minus, digit0, letter_a, ended_word, wants_word, refused_word, malformed_word}
-use Rattle.answer_lines.specs.declared.Wrote.{Wrote}
-use Rattle.answer_lines.specs.declared.Wrote.TheVariants as wrote
-use Rattle.answer_lines.specs.declared.Text.{Text}
 
 -- ---- numbers
 
@@ -43,7 +41,7 @@ octets_text (x ∷ o) = digits_text (x ∷ o)
 unfoldable pub outcome_text : Outcome → List ℕ
 outcome_text outcome.Ended = ended_word
 outcome_text outcome.Wants = wants_word
-outcome_text (outcome.Refused n) = refused_word ++ decimal n
+outcome_text (outcome.Refused r) = refused_word ++ decimal (refusal_number r)
 
 -- OUTCOME, READ and WRITTEN, with a space behind each
 unfoldable pub head_text : Outcome → ℕ → ℕ → List ℕ
@@ -64,18 +62,6 @@ malformed_text = malformed_word ++ (line_feed ∷ [])
 -- ---- what writing a text answers, and what it leaves in the lent buffer
 
 -- a text laid at the front of a buffer: the number of its octets; where it does not fit, nothing is written
-pub record TextWritten (buffer text : List ℕ) (answer : Wrote) (buffer' : List ℕ) : Type 0 where
-  pub result : answer ≡ cond (fits_at buffer 0 text) (wrote.Octets (length text)) wrote.NoRoom
+pub record TextWritten (buffer text : List ℕ) (answer : Option ℕ) (buffer' : List ℕ) : Type 0 where
+  pub result : answer ≡ cond (fits_at buffer 0 text) (Some (length text)) None
   pub left : buffer' ≡ write_at buffer 0 text
-
--- ---- the code's cases
-
--- the text in a buffer that is filled from its end
-abbrev pub text_in : Text → List ℕ
-text_in t = drop t.at t.octets
-
--- the places of LIST and of the line feed in an answer that begins with this head
-pub record PlacesOf (head : Text) (list : List ℕ) (list_place end : ℕ) : Type 0 where
-  pub within : head.at ≤ 96
-  pub list_at : list_place + head.at ≡ 419
-  pub end_at : end ≡ list_place + length (octets_text list)

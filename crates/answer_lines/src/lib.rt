@@ -1,84 +1,90 @@
 // The answer to a step line: OUTCOME READ WRITTEN MACHINE LIST, with its line feed.
 #![tactic(auto)]
 
-ghost use Rattle.std.specs.Prelude.{◌≡◌, ◌++◌, ◌+◌, ◌*◌, ◌≤◌, ◌<◌, length};
+ghost use Rattle.std.specs.Prelude.{◌≡◌, ◌++◌, ◌∷◌, [], ◌+◌, ◌*◌, ◌≤◌, ◌<◌, length, drop};
 ghost use Rattle.octets.specs.Octets.{write_at};
-ghost use Rattle.answer_lines.specs.AnswerLines.{decimal, digit_text, digits_text, octets_text, outcome_text, head_text, rest_text, answer_text, malformed_text, TextWritten, text_in, PlacesOf};
+ghost use Rattle.lines.specs.Text.{space, line_feed};
+ghost use Rattle.answer_lines.specs.AnswerLines.{decimal, digit_text, digits_text, octets_text, outcome_text, head_text, answer_text, malformed_text, TextWritten};
 
-use machine::Machine;
 use octets::write;
 use protocol::{Outcome, Stepped};
-use record::write_machine;
-
-// Whether a text was written, and its octets.
-#[derive(Clone, Copy)]
-pub enum Wrote {
-    Octets(usize),
-    NoRoom,
-}
+use record::{RECORD_SIZE, machine_octets};
 
 // A text in a buffer that is filled from its end: it begins at a place.
 #[derive(Clone, Copy)]
 struct Text {
     octets: [u8; 96],
     at: usize,
+    ghost inside: { at ≤ 96 },
 }
 
-// A word in front of a text.
-// requires because it has no refusal: the caller keeps the buffer long enough.
-fn put_word(word: &[u8], text: Text) -> Text
-    requires { (length word.now ≤ text.at) × (text.at ≤ 96) }
-    ensures { (text_in result ≡ word.now ++ text_in text) × (result.at + length word.now ≡ text.at) }
-{
-    let mut octets = text.octets;
-    let at = text.at - word.len();
-    write(&mut octets, at, word);
-    Text { octets, at }
-}
-
-// A number in front of a text.
-// requires because it has no refusal: the caller keeps 20 places free.
-fn put_decimal(n: usize, text: Text) -> Text
-    requires { (20 ≤ text.at) × (text.at ≤ 96) }
-    ensures { (text_in result ≡ decimal n ++ text_in text) × (text.at ≤ result.at + 20) × (result.at ≤ text.at) }
-{
-    let mut octets = text.octets;
-    let mut at = text.at;
-    let mut rest = n;
-    while 10 <= rest {
-        at -= 1;
-        octets[at] = b'0' + (rest % 10) as u8;
-        rest /= 10;
+impl Text {
+    // A word in front.
+    // requires because it has no refusal: the caller keeps the buffer long enough.
+    fn put_word(&mut self, word: &[u8])
+        requires { length word.now ≤ self.old.at }
+        ensures text { drop self.new.at self.new.octets ≡ word.now ++ drop self.old.at self.old.octets }
+        ensures place { self.new.at + length word.now ≡ self.old.at }
+    {
+        let at = self.at - word.len();
+        write(&mut self.octets, at, word);
+        self.at = at;
     }
-    at -= 1;
-    octets[at] = b'0' + rest as u8;
-    Text { octets, at }
-}
 
-// OUTCOME in front of a text.
-// requires because it has no refusal: the caller keeps 27 places free.
-fn put_outcome(outcome: Outcome, text: Text) -> Text
-    requires { (27 ≤ text.at) × (text.at ≤ 96) }
-    ensures { (text_in result ≡ outcome_text outcome ++ text_in text) × (result.at ≤ 96) }
-{
-    match outcome {
-        Outcome::Ended => put_word(b"ended", text),
-        Outcome::Wants => put_word(b"wants", text),
-        Outcome::Refused(number) => put_word(b"refused", put_decimal(number as usize, text)),
+    // A number in front.
+    // requires because it has no refusal: the caller keeps 20 places free.
+    fn put_decimal(&mut self, n: usize)
+        requires { 20 ≤ self.old.at }
+        ensures text { drop self.new.at self.new.octets ≡ decimal n ++ drop self.old.at self.old.octets }
+        ensures places { self.old.at ≤ self.new.at + 20 }
+    {
+        let mut rest = n;
+        while 10 <= rest {
+            self.put_word(&[b'0' + (rest % 10) as u8]);
+            rest /= 10;
+        }
+        self.put_word(&[b'0' + rest as u8]);
     }
-}
 
-// OUTCOME, READ and WRITTEN, with a space behind each.
-fn head_of(outcome: Outcome, read: usize, written: usize) -> Text
-    ensures { (text_in result ≡ head_text outcome read written) × (result.at ≤ 96) }
-{
-    let none = Text {
-        octets: [0; 96],
-        at: 96,
-    };
-    let last = put_decimal(written, put_word(b" ", none));
-    let counts = put_decimal(read, put_word(b" ", last));
-    put_outcome(outcome, put_word(b" ", counts))
+    // OUTCOME in front.
+    // requires because it has no refusal: the caller keeps 27 places free.
+    #[tactic(auto, unfolding(crate::specs::AnswerLines::outcome_text))]
+    fn put_outcome(&mut self, outcome: Outcome)
+        requires { 27 ≤ self.old.at }
+        ensures { drop self.new.at self.new.octets ≡ outcome_text outcome ++ drop self.old.at self.old.octets }
+    {
+        match outcome {
+            Outcome::Ended => self.put_word(b"ended"),
+            Outcome::Wants => self.put_word(b"wants"),
+            Outcome::Refused(refusal) => {
+                self.put_decimal(u8::from(refusal) as usize);
+                self.put_word(b"refused");
+            }
+        }
+    }
+
+    // OUTCOME, READ and WRITTEN, with a space behind each.
+    fn head(outcome: Outcome, read: usize, written: usize) -> Text
+        ensures { drop result.at result.octets ≡ head_text outcome read written }
+    {
+        let mut text = Text {
+            octets: [0; 96],
+            at: 96,
+        };
+        text.put_word(b" ");
+        text.put_decimal(written);
+        text.put_word(b" ");
+        text.put_decimal(read);
+        text.put_word(b" ");
+        text.put_outcome(outcome);
+        text
+    }
+
+    fn as_slice(&self) -> &[u8]
+        ensures { result.now ≡ drop self.now.at self.now.octets }
+    {
+        &self.octets[self.at..]
+    }
 }
 
 // A lower-case hexadecimal digit.
@@ -97,6 +103,7 @@ fn put_digits(octets: &[u8], part: &mut [u8])
     ensures { part.new ≡ digits_text octets.now }
 {
     let n = octets.len();
+    // by index: what `chunks_exact_mut` lends piece by piece is not known to be the whole part again
     for i in 0..n {
         let b = octets[i];
         part[2 * i] = digit_text(b / 16);
@@ -120,63 +127,51 @@ fn put_field(octets: &[u8], out: &mut [u8], at: usize)
 }
 
 // How many octets the text of a list has.
-// requires because the number fits only in a list that is not too long.
 fn field_length(octets: &[u8]) -> usize
-    requires { 2 * length octets.now < 18446744073709551616 }
     ensures { result ≡ length (octets_text octets.now) }
 {
     let n = octets.len();
     if n == 0 { 1 } else { 2 * n }
 }
 
-// MACHINE and LIST behind the head of an answer, in a buffer that has room.
-// requires because it has no refusal: the caller has tested the room and worked out the places.
-fn put_answer(head: Text, machine: Machine, list: &[u8], out: &mut [u8], list_at: usize, end: usize)
-    requires { PlacesOf head list.now list_at end × (end < length out.old) }
-    ensures { out.new ≡ write_at out.old 0 (text_in head ++ rest_text machine list.now) }
+// The head of an answer, and MACHINE and LIST behind it, at the front of a buffer that has room.
+// requires because it has no refusal: the caller has tested the room.
+fn put_answer(head: &[u8], machine: &[u8; RECORD_SIZE], list: &[u8], out: &mut [u8])
+    requires { length head.now + 324 + length (octets_text list.now) ≤ length out.old }
+    ensures { out.new ≡ write_at out.old 0 (head.now ++ (octets_text machine.now ++ (space ∷ (octets_text list.now ++ (line_feed ∷ []))))) }
 {
-    let octets = head.octets;
-    let at = head.at;
-    let mut record = [0u8; 161];
-    write_machine(machine, &mut record);
-    write(out, 0, &octets[at..]);
-    put_field(&record, out, 96 - at);
+    let machine_at = head.len();
+    let list_at = machine_at + 323;
+    let end = list_at + field_length(list);
+    write(out, 0, head);
+    put_field(machine, out, machine_at);
     write(out, list_at - 1, b" ");
     put_field(list, out, list_at);
     write(out, end, b"\n");
 }
 
-// The answer line at the front of out, and how many octets it has; where it does not fit, nothing is written.
-pub fn write_answer(stepped: Stepped, list: &[u8], out: &mut [u8]) -> Wrote
+// The answer line at the front of out, and how many octets it has; None where it does not fit, and nothing is written.
+pub fn write_answer(stepped: Stepped, list: &[u8], out: &mut [u8]) -> Option<usize>
     ensures { TextWritten out.old (answer_text stepped list.now) result out.new }
 {
-    let outcome = stepped.outcome;
-    let machine = stepped.machine;
-    let room = out.len();
-    if room / 2 < list.len() {
-        return Wrote::NoRoom;
+    let machine = machine_octets(stepped.machine);
+    let text = Text::head(stepped.outcome, stepped.read, stepped.written);
+    let head = text.as_slice();
+    if out.len() / 2 < list.len() {
+        return None;
     }
-    let head = head_of(outcome, stepped.read, stepped.written);
-    let list_at = 419 - head.at;
-    let n = field_length(list);
-    if room <= list_at {
-        return Wrote::NoRoom;
+    let length = head.len() + 324 + field_length(list);
+    if out.len() < length {
+        return None;
     }
-    if room - list_at <= n {
-        return Wrote::NoRoom;
-    }
-    let end = list_at + n;
-    put_answer(head, machine, list, out, list_at, end);
-    Wrote::Octets(end + 1)
+    put_answer(head, &machine, list, out);
+    Some(length)
 }
 
 // The answer to a malformed line, in the same manner.
-pub fn write_malformed(out: &mut [u8]) -> Wrote
+#[tactic(auto, unfolding(crate::specs::AnswerLines::malformed_text))]
+pub fn write_malformed(out: &mut [u8]) -> Option<usize>
     ensures { TextWritten out.old malformed_text result out.new }
 {
-    if write(out, 0, b"malformed\n") {
-        Wrote::Octets(10)
-    } else {
-        Wrote::NoRoom
-    }
+    write(out, 0, b"malformed\n").then_some(10)
 }

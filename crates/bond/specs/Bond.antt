@@ -1,20 +1,13 @@
 -- Believed: the archive's contracts and demand 3 rest on it.
 -- Addresses, errors and bonds, and the octets that document 01 gives them ("Paired or failed"). Assumes nothing.
-use Rattle.std.specs.Prelude.{ℕ, Bool, true, false, cond, List, [], ◌∷◌, ◌++◌, eqb, get_or, take, drop, replicate}
-use Rattle.std.proofs.Math.Option.{Option, none, some}
+use Rattle.std.specs.Prelude.{ℕ, Bool, true, false, cond, List, [], ◌∷◌, ◌++◌, eqb, get_or, take, drop, replicate, Option, Some, None, is_some}
 use Rattle.octets.specs.Octets.{from_octets, to_octets, octets_of, word_of}
 use Rattle.types.specs.Types.{reason_code}
 use Rattle.bond.specs.declared.BdAddr.{BdAddr}
 use Rattle.bond.specs.declared.Address.{Address}
 use Rattle.bond.specs.declared.Error.{Error}
 use Rattle.bond.specs.declared.Error.TheVariants.{Security, InvalidState, InvalidValue, OutOfMemory, Host}
-use Rattle.bond.specs.declared.TryFlag.{TryFlag}
-use Rattle.bond.specs.declared.TryFlag.TheVariants as try-flag
 use Rattle.bond.specs.declared.BondInformation.{BondInformation}
-use Rattle.bond.specs.declared.OptionBond.{OptionBond}
-use Rattle.bond.specs.declared.OptionBond.TheVariants as option
-use Rattle.bond.specs.declared.TryBond.{TryBond}
-use Rattle.bond.specs.declared.TryBond.TheVariants as try-bond
 
 -- ---- addresses
 
@@ -56,11 +49,7 @@ flag_code false = 0
 flag_code true = 1
 
 abbrev pub flag_of : ℕ → Option Bool
-flag_of x = get_or (some false ∷ some true ∷ []) x none
-
-abbrev pub try_flag : TryFlag → Option Bool
-try_flag (try-flag.Ok b) = some b
-try_flag try-flag.InvalidValue = none
+flag_of x = get_or (Some false ∷ Some true ∷ []) x None
 
 -- ---- the bond, 51 octets: LTK 16, EDIV 2, Rand 8, is_bonded 0/1, level 1, IRK 16 (all zero: none), address kind and 6
 
@@ -88,25 +77,17 @@ bond_with l bonded =
 
 -- none where is_bonded is neither 0 nor 1
 abbrev pub on_flag : {A : Type 0} → Option Bool → (Bool → A) → Option A
-on_flag none f = none
-on_flag (some b) f = some (f b)
+on_flag None f = None
+on_flag (Some b) f = Some (f b)
 
 unfoldable pub bond_of : List ℕ → Option BondInformation
 bond_of l = on_flag (flag_of (get_or l 26 0)) (bond_with l)
 
-abbrev pub try_bond : TryBond → Option BondInformation
-try_bond (try-bond.Ok b) = some b
-try_bond try-bond.InvalidValue = none
-
 -- ---- a bond or none: present 0/1, then the bond or zeros
 
-abbrev pub bond_present : OptionBond → Bool
-bond_present (option.Some b) = true
-bond_present option.None = false
+abbrev pub bond_or_zeros : Option BondInformation → List ℕ
+bond_or_zeros (Some b) = bond_octets b
+bond_or_zeros None = replicate 51 0
 
-abbrev pub bond_or_zeros : OptionBond → List ℕ
-bond_or_zeros (option.Some b) = bond_octets b
-bond_or_zeros option.None = replicate 51 0
-
-abbrev pub option_bond_octets : OptionBond → List ℕ
-option_bond_octets o = flag_code (bond_present o) ∷ bond_or_zeros o
+abbrev pub option_bond_octets : Option BondInformation → List ℕ
+option_bond_octets o = flag_code (is_some o) ∷ bond_or_zeros o

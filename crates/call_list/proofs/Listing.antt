@@ -1,20 +1,21 @@
 -- Laws of reading a call list: what the encoder wrote reads back, and what reads is those kinds and bodies laid end to
 -- end. Assumes nothing.
+use borrow.Author.Rules.{rules}
 use mathlib.Core.Path.{◌≡◌, refl, sym, ap, ◌∙◌}
-use mathlib.Core.Option.{Option, none, some}
+use Rattle.std.specs.Prelude.{Option, Some, None, Result, Ok, Err, IsErr}
 use mathlib.Core.List.{List, [], ◌∷◌, ◌++◌, append_assoc, append-nil}
-use Prim.Native.Nat.{ℕ, zero, suc, ◌+◌, ◌≤◌, ◌<◌, zero-le, suc-le-suc}
+use Prim.Native.Nat.{ℕ, zero, suc, ◌+◌, ◌-◌, ◌≤◌, ◌<◌, zero-le, suc-le-suc}
 use native.Mathlib.Nat.{add-zero, add-suc, suc-add}
-use native.Mathlib.Numerals.{add-one}
 use native.Mathlib.Omega.{arith}
-use lib.ListN.{length, get_or, take, drop, length-append, length-drop, take-append-drop, drop_of_length-le}
-use lib.Seq.{length-take-le, drop-cons, drop-drop, drop-append_seam, get_or_at}
+use lib.ListN.{length, take, drop, length-append, length-drop, take-append-drop}
+use lib.Seq.{length-take-le, drop-append_seam}
 use Rattle.octets.specs.Answer.{Answer, refused, accepted, and_then}
 use Rattle.types.proofs.Tables.{refused≢accepted}
 use Rattle.host.specs.Calls.{kind_of, body_of, call_octets, calls_octets, body_length}
-use Rattle.call_list.specs.CallList.{begins, calls_from, calls_of, no_call, checked_of, count_of, call_in, call_at_of, size_of}
+use Rattle.call_list.specs.CallList.{begins, calls_from, calls_of, call_in, call_at_of, size_of, checked_of, count_of, list_answer}
 use Rattle.host.specs.declared.call.Call.{Call}
 use Rattle.call_list.specs.declared.CallRecord.{CallRecord}
+use Rattle.call_list.specs.declared.InvalidList.{InvalidList}
 use Rattle.host.proofs.Writing.{body_length_lem}
 
 -- ---- a body is passed over, or it is cut
@@ -74,8 +75,8 @@ body_whole (suc n) at (x ∷ l) e = suc-le-suc (body_whole n (suc at) l e)
 behind : (k at : ℕ) (x : Option ℕ) (l : List ℕ) (r : CallRecord) (rs : List CallRecord) → body_length k ≡ x
     → begins k (suc at) x (λ size. calls_from (suc at) size l) ≡ accepted (r ∷ rs)
     → (r ≡ record { kind = k; body = suc at }) × (calls_from (suc at) (size_of x) l ≡ accepted rs)
-behind k at none l r rs p e = absurd (refused≢accepted e)
-behind k at (some n) l r rs p e = onto (calls_from (suc at) n l) e
+behind k at None l r rs p e = absurd (refused≢accepted e)
+behind k at (Some n) l r rs p e = onto (calls_from (suc at) n l) e
   where
     onto : (y : Answer (List CallRecord)) → and_then y (λ calls. accepted (record { kind = k; body = suc at } ∷ calls)) ≡ accepted (r ∷ rs)
         → (r ≡ record { kind = k; body = suc at }) × (y ≡ accepted rs)
@@ -83,8 +84,8 @@ behind k at (some n) l r rs p e = onto (calls_from (suc at) n l) e
     onto (accepted calls) e = let q = call_first e in (sym q.0, ap accepted q.1)
 
 nothing_begins : (k at : ℕ) (x : Option ℕ) (l : List ℕ) → begins k (suc at) x (λ size. calls_from (suc at) size l) ≡ accepted [] → ⊥
-nothing_begins k at none l e = refused≢accepted e
-nothing_begins k at (some n) l e = onto (calls_from (suc at) n l) e
+nothing_begins k at None l e = refused≢accepted e
+nothing_begins k at (Some n) l e = onto (calls_from (suc at) n l) e
   where
     onto : (y : Answer (List CallRecord)) → and_then y (λ calls. accepted (record { kind = k; body = suc at } ∷ calls)) ≡ accepted [] → ⊥
     onto (refused m) e = refused≢accepted e
@@ -126,40 +127,65 @@ laid_out l rs e = laid_from rs [] l e
 
 -- ---- a loop over the calls of a list
 
--- the calls before place at are done, and the call at an index is known if it is one of them
-pub record Seen (l : List ℕ) (index at count kind body : ℕ) : Type 0 where
+-- the calls before the rest are done, and the one at an index is known if it is one of them
+pub record Seen (l rest : List ℕ) (index count : ℕ) (call : Option CallRecord) : Type 0 where
   pub done : List CallRecord
-  pub within : at ≤ length l
-  pub few : count ≤ at
+  pub few : count + length rest ≤ length l
   pub number : count ≡ length done
-  pub rest : calls_of l ≡ and_then (calls_from at 0 (drop at l)) (λ more. accepted (done ++ more))
-  pub here : record { kind = kind; body = body } ≡ get_or done index no_call
+  pub follows : calls_of l ≡ and_then (calls_from (length l - length rest) 0 rest) (λ more. accepted (done ++ more))
+  pub here : call ≡ call_in done index
 
-pub seen_none : (l : List ℕ) (index : ℕ) → Seen l index 0 0 0 0
+pub seen_none : (l : List ℕ) (index : ℕ) → Seen l l index 0 None
 unfolding calls_of
 seen_none l index =
-    record { done = []; within = omega arith; few = omega arith; number = refl; rest = same (calls_from 0 0 l); here = refl }
+    let start : length l - length l ≡ 0 = omega arith in
+    record { done = []; few = omega arith; number = refl; follows = rw start (same (calls_from 0 0 l)); here = refl }
   where
     same : (x : Answer (List CallRecord)) → x ≡ and_then x (λ more. accepted more)
     same (refused n) = refl
     same (accepted a) = refl
 
--- the call at place at begins
-begins_at : (l : List ℕ) (at : ℕ) → at < length l
-    → calls_from at 0 (drop at l) ≡ begins (get_or l at 0) (suc at) (body_length (get_or l at 0)) (λ size. calls_from (suc at) size (drop (suc at) l))
-unfolding calls_from
-begins_at l at h = rw (drop-cons l at 0 h)
+-- the list is at its end
+pub seen_all : {l : List ℕ} {index count : ℕ} {call : Option CallRecord} → Seen l [] index count call → accepted (count, call) ≡ checked_of l index
+unfolding calls_from checked_of
+seen_all w =
+    let all : calls_of _ ≡ accepted w.done = w.follows ∙ rw append-nil in
+    rw (all, w.number, w.here)
 
-module _ {l : List ℕ} {index at count kind body : ℕ} (w : Seen l index at count kind body) (h : at < length l) where
+-- one more call behind those that are done
+call_last : (done : List CallRecord) (r : CallRecord) (i : ℕ) → i ≡ length done → Some r ≡ call_in (done ++ (r ∷ [])) i
+call_last [] r i e = rw e
+call_last (x ∷ done) r zero e = absurd (omega arith)
+call_last (x ∷ done) r (suc i) e = call_last done r i (omega arith)
+
+call_before : (done : List CallRecord) (r : CallRecord) (i : ℕ) → (i ≡ length done → ⊥) → call_in done i ≡ call_in (done ++ (r ∷ [])) i
+call_before [] r zero n = absurd (n refl)
+call_before [] r (suc i) n = refl
+call_before (x ∷ done) r zero n = refl
+call_before (x ∷ done) r (suc i) n = call_before done r i (λ e. n (ap suc e))
+
+-- a call begins
+call_begins : (at : ℕ) (k : ℕ) (tail : List ℕ) → calls_from at 0 (k ∷ tail) ≡ begins k (suc at) (body_length k) (λ size. calls_from (suc at) size tail)
+unfolding calls_from
+call_begins at k tail = refl
+
+module _ {l tail : List ℕ} {k index count : ℕ} {call : Option CallRecord} (w : Seen l (k ∷ tail) index count call) where
+  begun : calls_of l
+      ≡ and_then (begins k (length l - length tail) (body_length k) (λ size. calls_from (length l - length tail) size tail)) (λ more. accepted (w.done ++ more))
+  begun =
+      let few = w.few in
+      let place : suc (length l - suc (length tail)) ≡ length l - length tail = omega arith in
+      w.follows ∙ rw (call_begins (length l - suc (length tail)) k tail, place)
+
   -- its kind is unknown
-  pub seen_unknown : body_length (get_or l at 0) ≡ none → calls_of l ≡ refused 6
-  seen_unknown e = w.rest ∙ rw (begins_at l at h, e)
+  pub seen_unknown : body_length k ≡ None → refused 6 ≡ checked_of l index
+  unfolding checked_of
+  seen_unknown e = let all : calls_of l ≡ refused 6 = begun ∙ rw e in rw all
 
   -- its body is cut
-  pub seen_cut : {size : ℕ} → body_length (get_or l at 0) ≡ some size → length l ≤ at + size → calls_of l ≡ refused 6
-  seen_cut {size} e k =
-      let short : length (drop (suc at) l) < size = rw length-drop (omega arith) in
-      w.rest ∙ rw (begins_at l at h, e, cut_body size (suc at) (drop (suc at) l) short)
+  pub seen_cut : {size : ℕ} → body_length k ≡ Some size → length tail < size → refused 6 ≡ checked_of l index
+  unfolding checked_of
+  seen_cut {size} e h = let all : calls_of l ≡ refused 6 = begun ∙ rw (e, cut_body size (length l - length tail) tail h) in rw all
 
   -- it is whole
   regroup : (r : CallRecord) (x : Answer (List CallRecord))
@@ -167,114 +193,50 @@ module _ {l : List ℕ} {index at count kind body : ℕ} (w : Seen l index at co
   regroup r (refused n) = refl
   regroup r (accepted a) = ap accepted (sym (append_assoc w.done (r ∷ []) a))
 
-  pub seen_more : {size : ℕ} (kind₁ body₁ : ℕ) → body_length (get_or l at 0) ≡ some size → at + size < length l
-      → record { kind = kind₁; body = body₁ } ≡ get_or (w.done ++ (record { kind = get_or l at 0; body = at + 1 } ∷ [])) index no_call
-      → Seen l index (at + 1 + size) (count + 1) kind₁ body₁
-  seen_more {size} kind₁ body₁ e k r =
+  seen_more : {size : ℕ} {next : Option CallRecord} → body_length k ≡ Some size → size ≤ length tail
+      → next ≡ call_in (w.done ++ (record { kind = k; body = length l - length tail } ∷ [])) index → Seen l (drop size tail) index (count + 1) next
+  seen_more {size} e h r =
       let few = w.few in
       let number = w.number in
-      let one : suc at ≡ at + 1 = sym (add-one at) in
-      let room : size ≤ length (drop (suc at) l) = rw length-drop (omega arith) in
-      let behind : calls_from (suc at) size (drop (suc at) l) ≡ calls_from (at + 1 + size) 0 (drop (at + 1 + size) l) =
-      passed size (suc at) (drop (suc at) l) room
-      ∙ ap (calls_from (suc at + size) 0) (drop-drop size (suc at) l)
-      ∙ ap (λ (n : ℕ). calls_from (n + size) 0 (drop (n + size) l)) one in
+      let here : CallRecord = record { kind = k; body = length l - length tail } in
+      let left : length (drop size tail) + size ≡ length tail = rw length-drop (omega arith) in
+      let next : length l - length tail + size ≡ length l - length (drop size tail) = omega arith in
+      let whole : calls_from (length l - length tail) size tail ≡ calls_from (length l - length (drop size tail)) 0 (drop size tail) =
+      passed size (length l - length tail) tail h ∙ ap (λ (n : ℕ). calls_from n 0 (drop size tail)) next in
       record {
-        done = w.done ++ (record { kind = get_or l at 0; body = at + 1 } ∷ []);
-        within = omega arith;
+        done = w.done ++ (here ∷ []);
         few = omega arith;
         number = rw length-append (omega arith);
-        rest = w.rest ∙ rw (begins_at l at h, e, behind, one) (regroup (record { kind = get_or l at 0; body = at + 1 }) (calls_from (at + 1 + size) 0 (drop (at + 1 + size) l)));
+        follows = begun ∙ rw (e, whole) (regroup here (calls_from (length l - length (drop size tail)) 0 (drop size tail)));
         here = r;
       }
 
--- the list is at its end
-pub seen_all : {l : List ℕ} {index at count kind body : ℕ} → Seen l index at count kind body → length l ≤ at
-    → accepted (count, record { kind = kind; body = body }) ≡ checked_of l index
-unfolding calls_from checked_of
-seen_all {l} {index} {at} w h =
-    let within = w.within in
-    let none_left : drop at l ≡ [] = drop_of_length-le l h in
-    let all : calls_of l ≡ accepted w.done = w.rest ∙ rw (none_left, append-nil) in
-    rw (all, w.number, w.here)
+  -- it is the one at the index, or another
+  pub seen_here : {size : ℕ} → body_length k ≡ Some size → size ≤ length tail → count ≡ index
+      → Seen l (drop size tail) index (count + 1) (Some (record { kind = k; body = length l - length tail }))
+  seen_here e h n = seen_more e h (call_last w.done _ index (sym n ∙ w.number))
 
--- ---- one more call
-
-pub last_here : (done : List CallRecord) (r : CallRecord) (i : ℕ) → i ≡ length done → r ≡ get_or (done ++ (r ∷ [])) i no_call
-last_here done r i e = sym (get_or_at done r [] no_call i (sym e))
-
-pub not_last : (done : List CallRecord) (r : CallRecord) (i : ℕ) → (i ≡ length done → ⊥) → get_or done i no_call ≡ get_or (done ++ (r ∷ [])) i no_call
-not_last [] r zero n = absurd (n refl)
-not_last [] r (suc i) n = refl
-not_last (x ∷ done) r zero n = refl
-not_last (x ∷ done) r (suc i) n = not_last done r i (λ e. n (ap suc e))
-
-pub same_call : {k k₁ b b₁ : ℕ} → k ≡ k₁ → b ≡ b₁ → ◌≡◌ {A = CallRecord} (record { kind = k; body = b }) (record { kind = k₁; body = b₁ })
-same_call p q = cc
+  pub seen_other : {size : ℕ} → body_length k ≡ Some size → size ≤ length tail → (count ≡ index → ⊥) → Seen l (drop size tail) index (count + 1) call
+  seen_other e h n = seen_more e h (w.here ∙ call_before w.done _ index (λ m. n (w.number ∙ sym m)))
 
 -- ---- what a checked list says
 
-call_in_lem : (calls : List CallRecord) (i : ℕ) → i < length calls → call_in calls i ≡ some (get_or calls i no_call)
-call_in_lem [] i h = absurd (omega arith)
-call_in_lem (c ∷ calls) zero h = refl
-call_in_lem (c ∷ calls) (suc i) h = call_in_lem calls i (omega arith)
+pub invalid : {A : Type 0} (r : Result A InvalidList) → IsErr r → list_answer r ≡ refused 6
+invalid (Ok a) h = search rules
+invalid (Err e) h = refl
 
-call_out : (calls : List CallRecord) (i : ℕ) → length calls ≤ i → call_in calls i ≡ none
-call_out [] i h = refl
-call_out (c ∷ calls) zero h = absurd (omega arith)
-call_out (c ∷ calls) (suc i) h = call_out calls i (omega arith)
+pub count_lem : (l : List ℕ) → count_of l ≡ and_then (checked_of l 0) (λ (p : ℕ × Option CallRecord). accepted p.0)
+unfolding count_of checked_of
+count_lem l = go (calls_of l)
+  where
+    go : (x : Answer (List CallRecord)) → and_then x (λ calls. accepted (length calls)) ≡ and_then (and_then {B = ℕ × Option CallRecord} x (λ calls. accepted (length calls, call_in calls 0))) (λ (p : ℕ × Option CallRecord). accepted p.0)
+    go (refused n) = refl
+    go (accepted calls) = refl
 
-pair_first : {a b : ℕ} {x y : CallRecord} → ◌≡◌ {A = Answer (ℕ × CallRecord)} (accepted (a, x)) (accepted (b, y)) → a ≡ b
-pair_first {a} {b} {x} {y} e = let p : ◌≡◌ {A = ℕ × CallRecord} (a, x) (b, y) = cc in ap (λ (q : ℕ × CallRecord). q.0) p
-
-pair_second : {a b : ℕ} {x y : CallRecord} → ◌≡◌ {A = Answer (ℕ × CallRecord)} (accepted (a, x)) (accepted (b, y)) → x ≡ y
-pair_second {a} {b} {x} {y} e = let p : ◌≡◌ {A = ℕ × CallRecord} (a, x) (b, y) = cc in ap (λ (q : ℕ × CallRecord). q.1) p
-
-module _ (i : ℕ) where
-  unfoldable checked : Answer (List CallRecord) → Answer (ℕ × CallRecord)
-  checked x = and_then x (λ calls. accepted (length calls, get_or calls i no_call))
-
-  count_from : (x : Answer (List CallRecord)) {n : ℕ} {c : CallRecord} → checked x ≡ accepted (n, c) → and_then x (λ calls. accepted (length calls)) ≡ accepted n
-  unfolding checked
-  count_from (refused k) e = absurd (refused≢accepted e)
-  count_from (accepted calls) e = ap accepted (pair_first e)
-
-  call_from : (x : Answer (List CallRecord)) {n : ℕ} {c : CallRecord} → checked x ≡ accepted (n, c) → i < n → and_then x (λ calls. accepted (call_in calls i)) ≡ accepted (some c)
-  unfolding checked
-  call_from (refused k) e h = absurd (refused≢accepted e)
-  call_from (accepted calls) e h =
-      let l = pair_first e in
-      ap accepted (call_in_lem calls i (omega arith) ∙ ap some (pair_second e))
-
-  none_from : (x : Answer (List CallRecord)) {n : ℕ} {c : CallRecord} → checked x ≡ accepted (n, c) → n ≤ i → and_then x (λ calls. accepted (call_in calls i)) ≡ accepted none
-  unfolding checked
-  none_from (refused k) e h = absurd (refused≢accepted e)
-  none_from (accepted calls) e h =
-      let l = pair_first e in
-      ap accepted (call_out calls i (omega arith))
-
-  refused_from : {B : Type 0} (x : Answer (List CallRecord)) (f : List CallRecord → Answer B) → checked x ≡ refused 6 → and_then x f ≡ refused 6
-  unfolding checked
-  refused_from (refused k) f e = let n : k ≡ 6 = cc in ap refused n
-  refused_from (accepted calls) f e = absurd (refused≢accepted (sym e))
-
-module _ (l : List ℕ) (i : ℕ) where
-  pub count_known : {n : ℕ} {c : CallRecord} → accepted (n, c) ≡ checked_of l i → accepted n ≡ count_of l
-  unfolding checked_of count_of checked
-  count_known e = sym (count_from i (calls_of l) (sym e))
-
-  pub call_known : {n : ℕ} {c : CallRecord} → accepted (n, c) ≡ checked_of l i → i < n → accepted (some c) ≡ call_at_of l i
-  unfolding checked_of call_at_of checked
-  call_known e h = sym (call_from i (calls_of l) (sym e) h)
-
-  pub none_known : {n : ℕ} {c : CallRecord} → accepted (n, c) ≡ checked_of l i → n ≤ i → accepted none ≡ call_at_of l i
-  unfolding checked_of call_at_of checked
-  none_known e h = sym (none_from i (calls_of l) (sym e) h)
-
-  pub count_refused : refused 6 ≡ checked_of l i → refused 6 ≡ count_of l
-  unfolding checked_of count_of checked
-  count_refused e = sym (refused_from i (calls_of l) (λ calls. accepted (length calls)) (sym e))
-
-  pub call_refused : refused 6 ≡ checked_of l i → refused 6 ≡ call_at_of l i
-  unfolding checked_of call_at_of checked
-  call_refused e = sym (refused_from i (calls_of l) (λ calls. accepted (call_in calls i)) (sym e))
+pub call_at_lem : (l : List ℕ) (i : ℕ) → call_at_of l i ≡ and_then (checked_of l i) (λ (p : ℕ × Option CallRecord). accepted p.1)
+unfolding call_at_of checked_of
+call_at_lem l i = go (calls_of l)
+  where
+    go : (x : Answer (List CallRecord)) → and_then x (λ calls. accepted (call_in calls i)) ≡ and_then (and_then {B = ℕ × Option CallRecord} x (λ calls. accepted (length calls, call_in calls i))) (λ (p : ℕ × Option CallRecord). accepted p.1)
+    go (refused n) = refl
+    go (accepted calls) = refl

@@ -1,21 +1,15 @@
 -- Believed: the archive's contracts rest on it.
 -- Reading a call list, "What is turned back" of document 01: 6 if a kind is unknown or a body cut. Assumes nothing.
-use Rattle.std.specs.Prelude.{ℕ, zero, suc, List, [], ◌∷◌, length, get_or}
-use Rattle.std.proofs.Math.Option.{Option, none, some}
-use Rattle.octets.specs.Answer.{Answer, refused, accepted, and_then}
+use Rattle.std.specs.Prelude.{ℕ, zero, suc, List, [], ◌∷◌, length, Option, Some, None, Result}
+use Rattle.octets.specs.Answer.{Answer, refused, accepted, and_then, answer_of}
 use Rattle.host.specs.Calls.{body_length}
 use Rattle.call_list.specs.declared.CallRecord.{CallRecord}
-use Rattle.call_list.specs.declared.CallCount.{CallCount}
-use Rattle.call_list.specs.declared.CallCount.TheVariants as call-count
-use Rattle.call_list.specs.declared.CallAt.{CallAt}
-use Rattle.call_list.specs.declared.CallAt.TheVariants as call_at
-use Rattle.call_list.specs.declared.Checked.{Checked}
-use Rattle.call_list.specs.declared.Checked.TheVariants as checked
+use Rattle.call_list.specs.declared.InvalidList.{InvalidList}
 
 -- a call of kind k begins, whose body stands at place at: the rest of the list is read behind its body
 abbrev pub begins : ℕ → ℕ → Option ℕ → (ℕ → Answer (List CallRecord)) → Answer (List CallRecord)
-begins k at none rest = refused 6
-begins k at (some size) rest = and_then (rest size) (λ calls. accepted (record { kind = k; body = at } ∷ calls))
+begins k at None rest = refused 6
+begins k at (Some size) rest = and_then (rest size) (λ calls. accepted (record { kind = k; body = at } ∷ calls))
 
 -- the calls of a list that stands at place at, where so many octets of a body are still to come
 unfoldable pub calls_from : ℕ → ℕ → List ℕ → Answer (List CallRecord)
@@ -35,8 +29,8 @@ count_of l = and_then (calls_of l) (λ calls. accepted (length calls))
 
 -- the call at an index, if there is one
 abbrev pub call_in : List CallRecord → ℕ → Option CallRecord
-call_in [] i = none
-call_in (c ∷ calls) zero = some c
+call_in [] i = None
+call_in (c ∷ calls) zero = Some c
 call_in (c ∷ calls) (suc i) = call_in calls i
 
 unfoldable pub call_at_of : List ℕ → ℕ → Answer (Option CallRecord)
@@ -44,27 +38,15 @@ call_at_of l i = and_then (calls_of l) (λ calls. accepted (call_in calls i))
 
 -- the length of a body, 0 where the kind is unknown
 abbrev pub size_of : Option ℕ → ℕ
-size_of none = 0
-size_of (some n) = n
+size_of None = 0
+size_of (Some n) = n
 
--- ---- the code's cases
+-- ---- what the code gives
 
-abbrev pub no_call : CallRecord
-no_call = record { kind = 0; body = 0 }
+-- an invalid list is refused by 6
+abbrev pub list_answer : {A : Type 0} → Result A InvalidList → Answer A
+list_answer r = answer_of (λ e. 6) r
 
-abbrev pub checked_answer : Checked → Answer (ℕ × CallRecord)
-checked_answer (checked.List n c) = accepted (n, c)
-checked_answer checked.Refused = refused 6
-
--- the number of calls, and the one at an index, zeros where there is none
-unfoldable pub checked_of : List ℕ → ℕ → Answer (ℕ × CallRecord)
-checked_of l i = and_then (calls_of l) (λ calls. accepted (length calls, get_or calls i no_call))
-
-abbrev pub count_answer : CallCount → Answer ℕ
-count_answer (call-count.Calls n) = accepted n
-count_answer (call-count.Refused n) = refused n
-
-abbrev pub call_answer : CallAt → Answer (Option CallRecord)
-call_answer (call_at.Call c) = accepted (some c)
-call_answer call_at.None = accepted none
-call_answer (call_at.Refused n) = refused n
+-- the number of calls, and the one at an index, if there is one
+unfoldable pub checked_of : List ℕ → ℕ → Answer (ℕ × Option CallRecord)
+checked_of l i = and_then (calls_of l) (λ calls. accepted (length calls, call_in calls i))

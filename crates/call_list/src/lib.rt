@@ -2,88 +2,54 @@
 #![tactic(auto)]
 
 ghost use Rattle.std.specs.Prelude.{◌≡◌};
-ghost use Rattle.call_list.specs.CallList.{count_of, call_at_of, count_answer, call_answer, checked_answer, checked_of};
+ghost use Rattle.call_list.specs.CallList.{list_answer, count_of, call_at_of, checked_of};
 
-use host::call::{BodyLength, body_length};
+use host::call::body_length;
 
 // A call of a list: its kind, and the place of its body.
-#[derive(Clone, Copy)]
+#[derive(Clone, Copy, PartialEq, Eq)]
 pub struct CallRecord {
     pub kind: u8,
     pub body: usize,
 }
 
-// The number of calls of a list, or its refusal.
-#[derive(Clone, Copy)]
-pub enum CallCount {
-    Calls(usize),
-    Refused(u8),
-}
+// A list in which a kind is unknown or a body is cut.
+#[derive(Clone, Copy, PartialEq, Eq)]
+pub struct InvalidList;
 
-// A call of a list, or that there is none at this index, or the list's refusal.
-#[derive(Clone, Copy)]
-pub enum CallAt {
-    Call(CallRecord),
-    None,
-    Refused(u8),
-}
-
-// A list that was checked: the number of its calls, and the call at one index (zeros where there is none).
-#[derive(Clone, Copy)]
-enum Checked {
-    List(usize, CallRecord),
-    Refused,
-}
-
-// Checks the whole list; refused where a kind is unknown or a body is cut.
-fn check(list: &[u8], index: usize) -> Checked
-    ensures { checked_answer result ≡ checked_of list.now index }
+// Checks the whole list: the number of its calls, and the call at an index, counted from 0.
+fn check(list: &[u8], index: usize) -> Result<(usize, Option<CallRecord>), InvalidList>
+    ensures { list_answer result ≡ checked_of list.now index }
 {
-    let len = list.len();
-    let mut at = 0;
+    let mut rest = list;
     let mut count = 0;
-    let mut kind = 0;
-    let mut body = 0;
-    while at < len {
-        let next = list[at];
-        let BodyLength::Octets(size) = body_length(next) else {
-            return Checked::Refused;
-        };
-        if len - at <= size {
-            return Checked::Refused;
-        }
+    let mut call = None;
+    while let Some((&kind, tail)) = rest.split_first() {
+        let size = body_length(kind).ok_or(InvalidList)?;
+        rest = tail.get(size..).ok_or(InvalidList)?;
         if count == index {
-            kind = next;
-            body = at + 1;
+            let body = list.len() - tail.len();
+            call = Some(CallRecord { kind, body });
         }
         count += 1;
-        at = at + 1 + size;
     }
-    Checked::List(count, CallRecord { kind, body })
+    Ok((count, call))
 }
 
-// The number of calls of a list; refused by 6 where a kind is unknown or a body is cut.
-pub fn count_calls(list: &[u8]) -> CallCount
-    ensures { count_answer result ≡ count_of list.now }
+// The number of calls of a list.
+#[tactic(auto, using(crate::proofs::Listing::count_lem, crate::proofs::Listing::invalid))]
+pub fn count_calls(list: &[u8]) -> Result<usize, InvalidList>
+    ensures { list_answer result ≡ count_of list.now }
 {
-    match check(list, 0) {
-        Checked::List(count, _) => CallCount::Calls(count),
-        Checked::Refused => CallCount::Refused(6),
-    }
+    let (count, _) = check(list, 0)?;
+    Ok(count)
 }
 
-// The call at an index, counted from 0; refused by 6 where the list is, whatever the index.
-pub fn call_at(list: &[u8], index: usize) -> CallAt
-    ensures { call_answer result ≡ call_at_of list.now index }
+// The call at an index, counted from 0; an invalid list has none, whatever the index.
+#[tactic(auto, using(crate::proofs::Listing::call_at_lem, crate::proofs::Listing::invalid))]
+pub fn call_at(list: &[u8], index: usize) -> Result<Option<CallRecord>, InvalidList>
+    ensures { list_answer result ≡ call_at_of list.now index }
 {
-    match check(list, index) {
-        Checked::List(count, call) => {
-            if index < count {
-                CallAt::Call(call)
-            } else {
-                CallAt::None
-            }
-        }
-        Checked::Refused => CallAt::Refused(6),
-    }
+    let (_, call) = check(list, index)?;
+    Ok(call)
 }

@@ -44,7 +44,7 @@ pub record Cases : Type 0 where
   pub key_size_16_read : read_and_written (record_of 0 16) ≡ accepted (record_of 0 16)
   -- a key cut to a size
   pub cut_to_7 : cut_to 7 (replicate 16 0xFF) ≡ replicate 7 0xFF ++ replicate 9 0x00
-  pub cut_to_16 : (k : LongTermKey) → k.0.low < 2 ^ 64 → k.0.high < 2 ^ 64 → masked_of 16 k ≡ k
+  pub cut_to_16 : (k : LongTermKey) → k.0 < 2 ^ 128 → masked_of 16 k ≡ k
   -- any five octets
   pub five_octets_refused : (a b c d e : ℕ) → features_of (a ∷ b ∷ c ∷ d ∷ e ∷ []) ≡ refused 4
   -- reason octets
@@ -55,4 +55,4 @@ pub record Cases : Type 0 where
   pub sbox_00 : sub_byte 0x00 ≡ 0x63
   pub sbox_53 : sub_byte 0x53 ≡ 0xED
   -- a nonce draw of zeros is 1
-  pub nonce_draw_of_zeros : (drawn_nonce (replicate 16 0x00)).0 ≡ record { low = 1; high = 0 }
+  pub nonce_draw_of_zeros : (drawn_nonce (replicate 16 0x00)).0 ≡ 1

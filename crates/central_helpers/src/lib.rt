@@ -1,304 +1,206 @@
-// legacy_central.rs, its lower part: the confirm value, the method that begins, Mrand, and the keys that are sent. What
-// a function open to legacy_central gives back follows from its inputs alone.
+// legacy_central.rs, its lower part: the confirm value, the method that begins, Mrand, and the keys that are sent.
 #![tactic(auto)]
 
-ghost use Rattle.std.specs.Prelude.{◌≡◌, true};
-ghost use Rattle.machine.specs.Machine.{no_confirm_data};
+ghost use Rattle.std.specs.Prelude.{◌≡◌, OnErr};
 ghost use Rattle.protocol.specs.Handlers.{names_encryption_key, send_encryption_key};
 ghost use Rattle.protocol.specs.LegacyCentral.{confirm_value, send_all_keys, send_mconfirm, send_mrand, answer_confirm};
 ghost use Rattle.protocol.specs.LegacyCentral.{begin_confirm, begin_method, handle_pairing_random};
 ghost use Rattle.ops.specs.Run.{run};
-ghost use Rattle.handlers.specs.Outcomes.{outcome_of, SendsConfirm, Sends};
-ghost use Rattle.central_helpers.specs.Responses.{display_pass_key, ran_kept};
+ghost use Rattle.handlers.specs.Outcomes.{ran_data, ran_machine, ran_nonce, ran_try};
+ghost use Rattle.central_helpers.specs.Responses.{display_pass_key};
 
-use answer::{NonceAnswer, PassKeyAnswer};
 use bond::Error;
 use crypto::{Confirm, Nonce, c1, s1};
-use handlers::keys::{TakenKeys, draw_keys, send_encryption_packets, send_identity_keys};
-use handlers::outcome::{ConfirmSent, Outcome};
-use handlers::packet::{make_confirm_packet, make_pairing_random};
-use handlers::payload::{TryWord, read_payload_word};
-use host::{ConnectionEvent, Trace};
-use machine::{ConfirmPhaseData, PairingData, Phase};
-use octets::Word128;
-use ops::{
-    Delivered, Halt, Sent, draw_nonce, draw_passkey, try_send_connection_event, try_send_packet,
+use handlers::keys::{draw_keys, send_identity_keys};
+use handlers::packet::{
+    make_central_identification_packet, make_confirm_packet, make_encryption_information_packet,
+    make_pairing_random,
 };
+use handlers::payload::read_payload_word;
+use host::ConnectionEvent;
+use machine::{Machine, PairingData, Phase};
+use ops::{Halt, Ops};
 use phases::{confirm_phase_data, enable_encryption, request_oob_data, request_pass_key};
 use types::{KeyDistributionFlags, Reason};
 use util::{PairingMethod, PassKeyEntryAction};
 
 // c1 of a nonce: this end is the initiator.
-fn confirm_value(confirm_data: ConfirmPhaseData, pairing_data: PairingData, nonce: Nonce) -> Confirm
-    ensures { result ≡ confirm_value confirm_data pairing_data nonce }
+#[tactic(auto, unfolding(protocol::specs::LegacyCentral::confirm_value))]
+fn confirm_value(machine: &Machine, nonce: Nonce) -> Confirm
+    ensures { result ≡ confirm_value machine.now.confirm_data machine.now.pairing_data nonce }
 {
-    let preq = confirm_data.preq;
-    let pres = confirm_data.pres;
-    let initiator = pairing_data.local_address;
-    let responder = pairing_data.peer_address;
-    let iat = initiator.addr_type();
+    let tk = machine.confirm_data.tk;
+    let preq = machine.confirm_data.preq;
+    let pres = machine.confirm_data.pres;
+    let initiator = machine.pairing_data.local_address;
+    let responder = machine.pairing_data.peer_address;
     let ia = initiator.addr.into_inner();
-    let rat = responder.addr_type();
     let ra = responder.addr.into_inner();
-    c1(confirm_data.tk, nonce, preq, pres, iat, ia, rat, ra)
+    c1(
+        tk,
+        nonce,
+        preq,
+        pres,
+        initiator.addr_type(),
+        ia,
+        responder.addr_type(),
+        ra,
+    )
 }
 
 // Mrand goes out where Sconfirm is known.
+#[tactic(auto, unfolding(protocol::specs::LegacyCentral::send_mrand))]
 pub fn answer_confirm(
-    trace: Trace,
-    answers: &[u8],
-    confirm_data: ConfirmPhaseData,
-    pairing_data: PairingData,
+    ops: &mut Ops<'_>,
+    machine: &mut Machine,
     peer_confirm: Confirm,
-) -> Outcome
-    ensures { result ≡ outcome_of confirm_data pairing_data (run answers.now (answer_confirm confirm_data pairing_data peer_confirm) trace) }
+) -> Result<(), Halt>
+    ensures ran { ran_machine ops.new.trace machine.new result ≡ run ops.old.answers.now (answer_confirm machine.old.confirm_data machine.old.pairing_data peer_confirm) ops.old.trace }
+    ensures answers { ops.new.answers ≡ ops.old.answers }
+    ensures kept { OnErr result (machine.new ≡ machine.old) }
 {
-    let sent = send_mrand(trace, answers, confirm_data);
-    let trace1 = sent.trace;
-    let answer = sent.answer;
-    let Delivered::Yes = answer else {
-        return Outcome::not(trace1, confirm_data, pairing_data, answer.halt());
-    };
-    let phase = Phase::WaitingPairingRandom { peer_confirm };
-    Outcome::next(trace1, confirm_data, pairing_data, phase)
+    send_mrand(ops, machine)?;
+    machine.enters(Phase::WaitingPairingRandom { peer_confirm });
+    Ok(())
 }
 
 // Sends all of the initiator's keys at once: those that the response names.
-pub fn send_all_keys(
-    trace: Trace,
-    answers: &[u8],
-    confirm_data: ConfirmPhaseData,
-    pairing_data: PairingData,
-) -> Outcome
-    ensures { result ≡ outcome_of confirm_data pairing_data (run answers.now (send_all_keys pairing_data) trace) }
+#[tactic(auto, using(ops::proofs::Laws::run_bind), unfolding(protocol::specs::LegacyCentral::send_all_keys))]
+pub fn send_all_keys(ops: &mut Ops<'_>, machine: &mut Machine) -> Result<(), Halt>
+    ensures ran { ran_machine ops.new.trace machine.new result ≡ run ops.old.answers.now (send_all_keys machine.old.pairing_data) ops.old.trace }
+    ensures answers { ops.new.answers ≡ ops.old.answers }
+    ensures kept { OnErr result (machine.new ≡ machine.old) }
 {
-    let named = pairing_data.peer_features.initiator_key_distribution;
-    let sent1 = send_encryption_keys(trace, answers, pairing_data, named);
-    let trace1 = sent1.trace;
-    let answer1 = sent1.answer;
-    let Delivered::Yes = answer1 else {
-        return Outcome::not(trace1, confirm_data, pairing_data, answer1.halt());
-    };
-    let sent2 = send_identity_keys(trace1, answers, named);
-    let trace2 = sent2.trace;
-    let answer2 = sent2.answer;
-    let Delivered::Yes = answer2 else {
-        return Outcome::not(trace2, confirm_data, pairing_data, answer2.halt());
-    };
-    Outcome::next(trace2, confirm_data, pairing_data, Phase::Success)
+    let features = machine.pairing_data.peer_features;
+    let named = features.initiator_key_distribution;
+    send_encryption_keys(ops, machine.pairing_data, named)?;
+    send_identity_keys(ops, named)?;
+    machine.enters(Phase::Success);
+    Ok(())
 }
 
 // LTK, EDIV and Rand, where they were agreed; none of them is kept.
+#[tactic(auto, unfolding(protocol::specs::Handlers::send_encryption_key))]
 fn send_encryption_keys(
-    trace: Trace,
-    answers: &[u8],
+    ops: &mut Ops<'_>,
     pairing_data: PairingData,
     named: KeyDistributionFlags,
-) -> Sent
-    ensures { ran_kept pairing_data result ≡ run answers.now (send_encryption_key pairing_data (λ ltk ediv rand. pairing_data) (names_encryption_key named)) trace }
+) -> Result<(), Halt>
+    ensures ran { ran_data ops.new.trace pairing_data result ≡ run ops.old.answers.now (send_encryption_key pairing_data (λ ltk ediv rand. pairing_data) (names_encryption_key named)) ops.old.trace }
+    ensures answers { ops.new.answers ≡ ops.old.answers }
 {
-    if named.encryption_key() {
-        return send_drawn_keys(trace, answers, pairing_data);
+    if !named.encryption_key() {
+        return Ok(());
     }
-    Sent {
-        trace,
-        answer: Delivered::Yes,
-    }
-}
-
-fn send_drawn_keys(trace: Trace, answers: &[u8], pairing_data: PairingData) -> Sent
-    ensures { ran_kept pairing_data result ≡ run answers.now (send_encryption_key pairing_data (λ ltk ediv rand. pairing_data) true) trace }
-{
-    let asked = draw_keys(trace, answers);
-    let trace1 = asked.trace;
-    let answer1 = asked.answer;
-    let TakenKeys::Ok(keys) = answer1 else {
-        let answer = Delivered::Not(Halt::Stop(answer1.stop()));
-        return Sent {
-            trace: trace1,
-            answer,
-        };
-    };
-    let sent = send_encryption_packets(trace1, answers, keys);
-    let trace2 = sent.trace;
-    let answer2 = sent.answer;
-    let Delivered::Yes = answer2 else {
-        return Sent {
-            trace: trace2,
-            answer: answer2,
-        };
-    };
-    Sent {
-        trace: trace2,
-        answer: Delivered::Yes,
-    }
+    let keys = draw_keys(ops)?;
+    ops.try_send_packet(make_encryption_information_packet(keys.ltk))?;
+    ops.try_send_packet(make_central_identification_packet(keys.ediv, keys.rand))
 }
 
 // The method that was chosen begins.
+#[tactic(auto, unfolding(protocol::specs::LegacyCentral::begin_method))]
 pub fn begin_method(
-    trace: Trace,
-    answers: &[u8],
+    ops: &mut Ops<'_>,
+    machine: &mut Machine,
     preq: [u8; 7],
     pres: [u8; 7],
-    pairing_data: PairingData,
     method: PairingMethod,
-) -> Outcome
-    ensures { result ≡ outcome_of no_confirm_data pairing_data (run answers.now (begin_method preq pres pairing_data method) trace) }
+) -> Result<(), Halt>
+    ensures ran { ran_machine ops.new.trace machine.new result ≡ run ops.old.answers.now (begin_method preq pres machine.old.pairing_data method) ops.old.trace }
+    ensures answers { ops.new.answers ≡ ops.old.answers }
+    ensures kept { OnErr result (machine.new ≡ machine.old) }
 {
-    let zero = Word128 { low: 0, high: 0 };
     match method {
-        PairingMethod::OutOfBand => {
-            return request_oob_data(trace, answers, preq, pres, pairing_data);
-        }
+        PairingMethod::OutOfBand => request_oob_data(ops, machine, preq, pres),
         PairingMethod::PassKeyEntry { central, .. } => match central {
-            PassKeyEntryAction::Display => {
-                return display_pass_key(trace, answers, preq, pres, pairing_data);
-            }
-            PassKeyEntryAction::Input => {
-                return request_pass_key(trace, answers, preq, pres, pairing_data);
-            }
+            PassKeyEntryAction::Display => display_pass_key(ops, machine, preq, pres),
+            PassKeyEntryAction::Input => request_pass_key(ops, machine, preq, pres),
         },
-        PairingMethod::JustWorks => {
-            return begin_confirm(trace, answers, preq, pres, pairing_data, zero);
-        }
+        PairingMethod::JustWorks => begin_confirm(ops, machine, preq, pres, 0),
         // never chosen in legacy pairing
         PairingMethod::NumericComparison => {
-            let none = ConfirmPhaseData::none();
-            let error = Error::Security(Reason::AuthenticationRequirements);
-            return Outcome::failed(trace, none, pairing_data, error);
+            Err(Halt::Failed(Error::Security(Reason::AuthenticationRequirements)))
         }
     }
 }
 
 // A passkey is drawn and shown, and is the temporary key.
 fn display_pass_key(
-    trace: Trace,
-    answers: &[u8],
+    ops: &mut Ops<'_>,
+    machine: &mut Machine,
     preq: [u8; 7],
     pres: [u8; 7],
-    pairing_data: PairingData,
-) -> Outcome
-    ensures { result ≡ outcome_of no_confirm_data pairing_data (run answers.now (display_pass_key preq pres pairing_data) trace) }
+) -> Result<(), Halt>
+    ensures ran { ran_machine ops.new.trace machine.new result ≡ run ops.old.answers.now (display_pass_key preq pres machine.old.pairing_data) ops.old.trace }
+    ensures answers { ops.new.answers ≡ ops.old.answers }
+    ensures kept { OnErr result (machine.new ≡ machine.old) }
 {
-    let none = ConfirmPhaseData::none();
-    let asked = draw_passkey(trace, answers);
-    let trace1 = asked.trace;
-    let answer1 = asked.answer;
-    let PassKeyAnswer::PassKey(passkey) = answer1 else {
-        return Outcome::stopped(trace1, none, pairing_data, answer1.stop());
-    };
-    let event = ConnectionEvent::PassKeyDisplay(passkey);
-    let sent = try_send_connection_event(trace1, answers, event);
-    let trace2 = sent.trace;
-    let answer2 = sent.answer;
-    let Delivered::Yes = answer2 else {
-        return Outcome::not(trace2, none, pairing_data, answer2.halt());
-    };
-    let tk = Word128 {
-        low: passkey.value() as u64,
-        high: 0,
-    };
-    begin_confirm(trace2, answers, preq, pres, pairing_data, tk)
+    let passkey = ops.draw_passkey()?;
+    ops.try_send_connection_event(ConnectionEvent::PassKeyDisplay(passkey))?;
+    begin_confirm(ops, machine, preq, pres, u128::from(passkey.value()))
 }
 
 // Mconfirm goes out where the temporary key is known, and Sconfirm is awaited.
+#[tactic(auto, unfolding(protocol::specs::LegacyCentral::begin_confirm, protocol::specs::LegacyCentral::send_mconfirm))]
 pub fn begin_confirm(
-    trace: Trace,
-    answers: &[u8],
+    ops: &mut Ops<'_>,
+    machine: &mut Machine,
     preq: [u8; 7],
     pres: [u8; 7],
-    pairing_data: PairingData,
-    tk: Word128,
-) -> Outcome
-    ensures { result ≡ outcome_of no_confirm_data pairing_data (run answers.now (begin_confirm preq pres pairing_data tk) trace) }
+    tk: u128,
+) -> Result<(), Halt>
+    ensures ran { ran_machine ops.new.trace machine.new result ≡ run ops.old.answers.now (begin_confirm preq pres machine.old.pairing_data tk) ops.old.trace }
+    ensures answers { ops.new.answers ≡ ops.old.answers }
+    ensures kept { OnErr result (machine.new ≡ machine.old) }
 {
-    let with_tk = confirm_phase_data(tk, preq, pres);
-    let sent = send_mconfirm(trace, answers, with_tk, pairing_data);
-    let trace1 = sent.trace;
-    let with_nonce = sent.confirm_data;
-    let answer = sent.answer;
-    let Delivered::Yes = answer else {
-        let none = ConfirmPhaseData::none();
-        return Outcome::not(trace1, none, pairing_data, answer.halt());
-    };
-    Outcome::next(
-        trace1,
-        with_nonce,
-        pairing_data,
-        Phase::WaitingPairingConfirm,
-    )
+    let mut next = *machine;
+    next.confirm_data = confirm_phase_data(tk, preq, pres);
+    let nonce = send_mconfirm(ops, &next)?;
+    next.confirm_data.local_nonce = nonce;
+    next.enters(Phase::WaitingPairingConfirm);
+    *machine = next;
+    Ok(())
 }
 
-// Mconfirm = c1(TK, Mrand, preq, pres, iat, ia, rat, ra) of a fresh Mrand.
-pub fn send_mconfirm(
-    trace: Trace,
-    answers: &[u8],
-    confirm_data: ConfirmPhaseData,
-    pairing_data: PairingData,
-) -> ConfirmSent
-    ensures { SendsConfirm answers.now trace confirm_data pairing_data (send_mconfirm confirm_data pairing_data) result }
+// Mconfirm = c1(TK, Mrand, preq, pres, iat, ia, rat, ra) of a fresh Mrand. Gives Mrand.
+#[tactic(auto, unfolding(protocol::specs::LegacyCentral::send_mconfirm))]
+pub fn send_mconfirm(ops: &mut Ops<'_>, machine: &Machine) -> Result<Nonce, Halt>
+    ensures ran { ran_nonce ops.new.trace machine.now.pairing_data machine.now.confirm_data result ≡ run ops.old.answers.now (send_mconfirm machine.now.confirm_data machine.now.pairing_data) ops.old.trace }
+    ensures answers { ops.new.answers ≡ ops.old.answers }
 {
-    let asked = draw_nonce(trace, answers);
-    let trace1 = asked.trace;
-    let answer1 = asked.answer;
-    let NonceAnswer::Nonce(local_nonce) = answer1 else {
-        let answer = Delivered::Not(Halt::Stop(answer1.stop()));
-        return ConfirmSent {
-            trace: trace1,
-            confirm_data,
-            answer,
-        };
-    };
-    let mconfirm = confirm_value(confirm_data, pairing_data, local_nonce);
-    let sent = try_send_packet(trace1, answers, make_confirm_packet(mconfirm));
-    let trace2 = sent.trace;
-    let answer2 = sent.answer;
-    let Delivered::Yes = answer2 else {
-        return ConfirmSent {
-            trace: trace2,
-            confirm_data,
-            answer: answer2,
-        };
-    };
-    ConfirmSent {
-        trace: trace2,
-        confirm_data: ConfirmPhaseData {
-            local_nonce,
-            ..confirm_data
-        },
-        answer: Delivered::Yes,
-    }
+    let local_nonce = ops.draw_nonce()?;
+    let mconfirm = confirm_value(machine, local_nonce);
+    ops.try_send_packet(make_confirm_packet(mconfirm))?;
+    Ok(local_nonce)
 }
 
-fn send_mrand(trace: Trace, answers: &[u8], confirm_data: ConfirmPhaseData) -> Sent
-    ensures { Sends answers.now trace (λ d. send_mrand confirm_data d) result }
+#[tactic(auto, unfolding(protocol::specs::LegacyCentral::send_mrand))]
+fn send_mrand(ops: &mut Ops<'_>, machine: &Machine) -> Result<(), Halt>
+    ensures ran { ran_try ops.new.trace machine.now.pairing_data result ≡ run ops.old.answers.now (send_mrand machine.now.confirm_data machine.now.pairing_data) ops.old.trace }
+    ensures answers { ops.new.answers ≡ ops.old.answers }
 {
-    let local_nonce = confirm_data.local_nonce;
-    try_send_packet(trace, answers, make_pairing_random(local_nonce))
+    ops.try_send_packet(make_pairing_random(machine.confirm_data.local_nonce))
 }
 
 // Srand is checked against Sconfirm.
+#[tactic(auto, unfolding(protocol::specs::LegacyCentral::handle_pairing_random))]
 pub fn handle_pairing_random(
-    trace: Trace,
-    answers: &[u8],
-    confirm_data: ConfirmPhaseData,
-    pairing_data: PairingData,
+    ops: &mut Ops<'_>,
+    machine: &mut Machine,
     peer_confirm: Confirm,
     payload: &[u8],
-) -> Outcome
-    ensures { result ≡ outcome_of confirm_data pairing_data (run answers.now (handle_pairing_random confirm_data pairing_data peer_confirm payload.now) trace) }
+) -> Result<(), Halt>
+    ensures ran { ran_machine ops.new.trace machine.new result ≡ run ops.old.answers.now (handle_pairing_random machine.old.confirm_data machine.old.pairing_data peer_confirm payload.now) ops.old.trace }
+    ensures answers { ops.new.answers ≡ ops.old.answers }
+    ensures kept { OnErr result (machine.new ≡ machine.old) }
 {
-    let TryWord::Ok(word) = read_payload_word(payload) else {
-        let error = Error::Security(Reason::InvalidParameters);
-        return Outcome::failed(trace, confirm_data, pairing_data, error);
-    };
+    let word = read_payload_word(payload).ok_or(Error::Security(Reason::InvalidParameters))?;
     let peer_nonce = Nonce(word);
-    let local_nonce = confirm_data.local_nonce;
-    let expected_sconfirm = confirm_value(confirm_data, pairing_data, peer_nonce);
-    if expected_sconfirm.0.equals(peer_confirm.0) {
-        let stk = s1(confirm_data.tk, peer_nonce, local_nonce);
-        return enable_encryption(trace, answers, confirm_data, pairing_data, stk);
+    let expected_sconfirm = confirm_value(machine, peer_nonce);
+    if expected_sconfirm != peer_confirm {
+        return Err(Halt::Failed(Error::Security(Reason::ConfirmValueFailed)));
     }
-    let error = Error::Security(Reason::ConfirmValueFailed);
-    Outcome::failed(trace, confirm_data, pairing_data, error)
+    let confirm_data = machine.confirm_data;
+    let stk = s1(confirm_data.tk, peer_nonce, confirm_data.local_nonce);
+    enable_encryption(ops, machine, stk)
 }

@@ -2,9 +2,10 @@
 -- four zeros; s1 is over the low 8 octets of r2, then of r1. Both readings are one. Assumes nothing.
 use mathlib.Core.Path.{◌≡◌, refl, ap, ◌∙◌}
 use mathlib.Core.List.{List, [], ◌∷◌, ◌++◌, reverse, append_assoc, reverse-append, reverse-reverse}
-use Prim.Native.Nat.{ℕ}
+use Prim.Native.Nat.{ℕ, ◌+◌, ◌*◌, ◌%◌, ◌^◌}
+use native.Mathlib.Omega.{arith}
 use lib.ListN.{take, replicate}
-use Rattle.octets.specs.declared.Word128.{Word128}
+use Rattle.octets.proofs.Octets.{from_mod}
 use Rattle.octets.specs.Octets.{octets_of, word_of, octets_be, word_be}
 use Rattle.crypto.specs.declared.crypto.Nonce.{Nonce}
 use Rattle.crypto.specs.Crypto.{e_of, p1_of, p2_of, s1_of}
@@ -21,6 +22,11 @@ p2_reading ia ra =
     (reverse-append (replicate 4 0) (reverse ia ++ reverse ra) ∙ ap (λ (l : List ℕ). l ++ (0 ∷ 0 ∷ 0 ∷ 0 ∷ [])) e
     ∙ append_assoc ra ia (0 ∷ 0 ∷ 0 ∷ 0 ∷ []))
 
-pub s1_reading : (k : Word128) (r1 r2 : Nonce) → (s1_of k r1 r2).0 ≡ e_of k (word_of (take 8 (octets_of r2.0) ++ take 8 (octets_of r1.0)))
+pub s1_reading : (k : ℕ) (r1 r2 : Nonce) → (s1_of k r1 r2).0 ≡ e_of k (word_of (take 8 (octets_of r2.0) ++ take 8 (octets_of r1.0)))
 unfolding s1_of octets_be word_be octets_of
 s1_reading k r1 r2 = refl
+
+-- the low 64 bits of y above those of x
+pub low_halves : (x y : ℕ) → x % 2 ^ 64 + 2 ^ 64 * (y % 2 ^ 64) ≡ word_of (take 8 (octets_of x) ++ take 8 (octets_of y))
+unfolding octets_of word_of
+low_halves x y = rw (← from_mod 8 x, ← from_mod 8 y) (omega arith)

@@ -1,4 +1,3 @@
 pub mod Outcomes
-pub mod Payloads
 pub mod Inputs
 pub mod Keys

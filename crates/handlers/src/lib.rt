@@ -3,6 +3,5 @@
 
 pub mod input;
 pub mod keys;
-pub mod outcome;
 pub mod packet;
 pub mod payload;

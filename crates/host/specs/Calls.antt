@@ -1,8 +1,7 @@
 -- Believed: the archive's contracts and demand 3 rest on it.
 -- Host calls as document 01 has them ("Paired or failed"): the number of each, its body, and the length that the number
 -- fixes. Assumes nothing.
-use Rattle.std.specs.Prelude.{ℕ, ◌+◌, cond, List, [], ◌∷◌, ◌++◌, eqb, length, take, replicate}
-use Rattle.std.proofs.Math.Option.{Option, none, some}
+use Rattle.std.specs.Prelude.{ℕ, ◌+◌, cond, List, [], ◌∷◌, ◌++◌, eqb, length, take, replicate, Option, Some, None}
 use Rattle.octets.specs.Octets.{to_octets, octets_of, fits_at, write_at}
 use Rattle.types.specs.Types.{command_code, feature_octets}
 use Rattle.types.specs.declared.types.Command.{Command}
@@ -18,8 +17,6 @@ use Rattle.host.specs.declared.call.Draw.{Draw}
 use Rattle.host.specs.declared.call.Draw.TheVariants as draw
 use Rattle.host.specs.declared.call.Call.{Call}
 use Rattle.host.specs.declared.call.Call.TheVariants as call
-use Rattle.host.specs.declared.call.BodyLength.{BodyLength}
-use Rattle.host.specs.declared.call.BodyLength.TheVariants as length-of
 use Rattle.host.specs.declared.call.Trace.{Trace}
 
 -- ---- packets: kind is the SMP code, body the payload
@@ -147,16 +144,12 @@ body_lengths =
     ∷ []
 
 abbrev pub length_in : List (ℕ × ℕ) → ℕ → Option ℕ
-length_in [] kind = none
-length_in (x ∷ l) kind = cond (eqb kind x.0) (some x.1) (length_in l kind)
+length_in [] kind = None
+length_in (x ∷ l) kind = cond (eqb kind x.0) (Some x.1) (length_in l kind)
 
--- none where there is no call of this kind
+-- None where there is no call of this kind
 abbrev pub body_length : ℕ → Option ℕ
 body_length kind = length_in body_lengths kind
-
-abbrev pub body_size : BodyLength → Option ℕ
-body_size (length-of.Octets n) = some n
-body_size length-of.Unknown = none
 
 -- ---- a list of calls
 

@@ -1,17 +1,17 @@
 // Host calls: one octet of kind, then a body whose length the kind fixes.
 ghost use Rattle.std.specs.Prelude.{◌≡◌, [], ◌∷◌, ◌++◌, length};
 ghost use Rattle.octets.specs.Octets.{to_octets, octets_of, Written};
-ghost use Rattle.bond.specs.Bond.{address_type, bd_addr_octets, bond_present, bond_or_zeros, flag_code};
-ghost use Rattle.host.specs.Calls.{packet_command, kind_of, event_kind, question_kind, draw_kind, body_length, body_size, packet_body, event_body};
+ghost use Rattle.bond.specs.Bond.{address_type, bd_addr_octets, option_bond_octets};
+ghost use Rattle.host.specs.Calls.{packet_command, kind_of, event_kind, question_kind, draw_kind, body_length, packet_body, event_body};
 ghost use Rattle.host.specs.Calls.{body_of, call_octets, listed, no_trace, push_of};
 
-use bond::{Address, BondInformation, Error, OptionBond, flag};
+use bond::{Address, BondInformation, Error, encode_bond};
 use crypto::{Confirm, IdentityResolvingKey, LongTermKey, Nonce};
-use octets::{split, write, write_word};
+use octets::{word_to_octets, write};
 use types::{Command, PairingFeatures, PassKey};
 
 // A packet to the peer (util.rs makes them).
-#[derive(Clone, Copy)]
+#[derive(Clone, Copy, PartialEq, Eq)]
 pub enum Packet {
     PairingResponse(PairingFeatures),
     PairingConfirm(Confirm),
@@ -23,12 +23,12 @@ pub enum Packet {
 }
 
 // An event to the host's user (connection.rs).
-#[derive(Clone, Copy)]
+#[derive(Clone, Copy, PartialEq, Eq)]
 pub enum ConnectionEvent {
     PairingFailed(Error),
     PairingComplete {
         security_level: u8,
-        bond: OptionBond,
+        bond: Option<BondInformation>,
     },
     PassKeyDisplay(PassKey),
     PassKeyInput,
@@ -37,26 +37,26 @@ pub enum ConnectionEvent {
 }
 
 // A question to the host.
-#[derive(Clone, Copy)]
+#[derive(Clone, Copy, PartialEq, Eq)]
 pub enum Question {
-    FindBond,
-    LocalIrk,
-    LocalIdentityAddress,
-    BondingFlag,
-    OobAvailable,
+    FindBond = 0x30,
+    LocalIrk = 0x31,
+    LocalIdentityAddress = 0x32,
+    BondingFlag = 0x33,
+    OobAvailable = 0x34,
 }
 
 // A draw of the generator.
-#[derive(Clone, Copy)]
+#[derive(Clone, Copy, PartialEq, Eq)]
 pub enum Draw {
-    Nonce,
-    PassKey,
-    LongTermKey,
-    Ediv,
-    Rand,
+    Nonce = 0x35,
+    PassKey = 0x36,
+    LongTermKey = 0x37,
+    Ediv = 0x38,
+    Rand = 0x39,
 }
 
-#[derive(Clone, Copy)]
+#[derive(Clone, Copy, PartialEq, Eq)]
 pub enum Call {
     SendPacket(Packet),
     SendConnectionEvent(ConnectionEvent),
@@ -80,7 +80,7 @@ impl Packet {
             Packet::PairingConfirm(_) => Command::PairingConfirm,
             Packet::PairingRandom(_) => Command::PairingRandom,
             Packet::EncryptionInformation(_) => Command::EncryptionInformation,
-            Packet::CentralIdentification { ediv: _, rand: _ } => Command::CentralIdentification,
+            Packet::CentralIdentification { .. } => Command::CentralIdentification,
             Packet::IdentityInformation(_) => Command::IdentityInformation,
             Packet::IdentityAddressInformation(_) => Command::IdentityAddressInformation,
         }
@@ -91,52 +91,39 @@ impl Packet {
         ensures { Written list.old at (packet_body self) result list.new }
     {
         match self {
-            Packet::PairingResponse(features) => {
-                let octets = features.encode();
-                write(list, at, &octets)
-            }
-            Packet::PairingConfirm(confirm) => write_word(list, at, confirm.0),
-            Packet::PairingRandom(nonce) => write_word(list, at, nonce.0),
-            Packet::EncryptionInformation(ltk) => write_word(list, at, ltk.0),
+            Packet::PairingResponse(features) => write(list, at, &features.encode()),
+            Packet::PairingConfirm(confirm) => write(list, at, &word_to_octets(confirm.0)),
+            Packet::PairingRandom(nonce) => write(list, at, &word_to_octets(nonce.0)),
+            Packet::EncryptionInformation(ltk) => write(list, at, &ltk.to_le_bytes()),
             Packet::CentralIdentification { ediv, rand } => {
-                let octets = identification(ediv, rand);
-                write(list, at, &octets)
+                write(list, at, &identification(ediv, rand))
             }
-            Packet::IdentityInformation(irk) => write_word(list, at, irk.0),
+            Packet::IdentityInformation(irk) => write(list, at, &irk.to_le_bytes()),
             Packet::IdentityAddressInformation(address) => {
-                let octets = identity_address(address);
-                write(list, at, &octets)
+                write(list, at, &identity_address(address))
             }
         }
     }
 }
 
 // EDIV, then Rand.
+#[tactic(auto, unfolding(octets::specs::Octets::fits_at, octets::specs::Octets::write_at))]
 fn identification(ediv: u16, rand: u64) -> [u8; 10]
     ensures { result ≡ to_octets 2 ediv ++ to_octets 8 rand }
 {
-    let r = split(rand);
-    [
-        (ediv % 256) as u8,
-        (ediv / 256 % 256) as u8,
-        r[0],
-        r[1],
-        r[2],
-        r[3],
-        r[4],
-        r[5],
-        r[6],
-        r[7],
-    ]
+    let mut octets = [0; 10];
+    write(&mut octets, 0, &ediv.to_le_bytes());
+    write(&mut octets, 2, &rand.to_le_bytes());
+    octets
 }
 
 // The type of an address, then its six octets.
+#[tactic(auto, unfolding(bond::specs::Bond::bd_addr_octets))]
 fn identity_address(address: Address) -> [u8; 7]
     ensures { result ≡ address_type address ∷ bd_addr_octets address.addr }
 {
-    let kind = address.addr_type();
-    let a = address.addr.into_inner();
-    [kind, a[0], a[1], a[2], a[3], a[4], a[5]]
+    let [a, b, c, d, e, f] = address.addr.into_inner();
+    [address.addr_type(), a, b, c, d, e, f]
 }
 
 impl ConnectionEvent {
@@ -145,10 +132,7 @@ impl ConnectionEvent {
     {
         match self {
             ConnectionEvent::PairingFailed(_) => 0x20,
-            ConnectionEvent::PairingComplete {
-                security_level: _,
-                bond: _,
-            } => 0x21,
+            ConnectionEvent::PairingComplete { .. } => 0x21,
             ConnectionEvent::PassKeyDisplay(_) => 0x22,
             ConnectionEvent::PassKeyInput => 0x23,
             ConnectionEvent::BondLost => 0x24,
@@ -161,91 +145,46 @@ impl ConnectionEvent {
         ensures { Written list.old at (event_body self) result list.new }
     {
         match self {
-            ConnectionEvent::PairingFailed(error) => {
-                let octets = error.failed_body();
-                write(list, at, &octets)
-            }
+            ConnectionEvent::PairingFailed(error) => write(list, at, &error.failed_body()),
             ConnectionEvent::PairingComplete {
                 security_level,
                 bond,
-            } => write_complete(list, at, security_level, bond),
-            ConnectionEvent::PassKeyDisplay(passkey) => {
-                let octets = passkey_octets(passkey.0);
-                write(list, at, &octets)
-            }
-            ConnectionEvent::PassKeyInput => at <= list.len(),
-            ConnectionEvent::BondLost => at <= list.len(),
-            ConnectionEvent::OobRequest => at <= list.len(),
+            } => write(list, at, &complete(security_level, bond)),
+            ConnectionEvent::PassKeyDisplay(passkey) => write(list, at, &passkey.0.to_le_bytes()),
+            ConnectionEvent::PassKeyInput
+            | ConnectionEvent::BondLost
+            | ConnectionEvent::OobRequest => write(list, at, &[]),
         }
     }
 }
 
-fn passkey_octets(passkey: u32) -> [u8; 4]
-    ensures { result ≡ to_octets 4 passkey }
-{
-    [
-        (passkey % 256) as u8,
-        (passkey / 256 % 256) as u8,
-        (passkey / 256 / 256 % 256) as u8,
-        (passkey / 256 / 256 / 256 % 256) as u8,
-    ]
-}
-
 // Level, bond present 0/1, bond or zeros.
-fn write_complete(list: &mut [u8], at: usize, security_level: u8, bond: OptionBond) -> bool
-    ensures { Written list.old at (security_level ∷ flag_code (bond_present bond) ∷ bond_or_zeros bond) result list.new }
+#[tactic(auto, unfolding(octets::specs::Octets::fits_at, octets::specs::Octets::write_at))]
+fn complete(security_level: u8, bond: Option<BondInformation>) -> [u8; 53]
+    ensures { result ≡ security_level ∷ option_bond_octets bond }
 {
-    let room = list.len();
-    if room < 53 {
-        return false;
-    }
-    if room - 53 < at {
-        return false;
-    }
-    let first = [security_level, flag(bond.is_some())];
-    write(list, at, &first);
-    let octets = bond.encode();
-    write(list, at + 2, &octets)
+    let mut octets = [0; 53];
+    write(&mut octets, 0, &[security_level, u8::from(bond.is_some())]);
+    write(&mut octets, 2, &encode_bond(bond));
+    octets
 }
 
 // Key, level, key size.
+#[tactic(auto, unfolding(octets::specs::Octets::fits_at, octets::specs::Octets::write_at, octets::specs::Octets::octets_of))]
 fn encryption(ltk: LongTermKey, security_level: u8, encryption_key_len: u8) -> [u8; 18]
     ensures { result ≡ octets_of ltk.0 ++ (security_level ∷ encryption_key_len ∷ []) }
 {
-    let k = ltk.to_le_bytes();
-    [
-        k[0],
-        k[1],
-        k[2],
-        k[3],
-        k[4],
-        k[5],
-        k[6],
-        k[7],
-        k[8],
-        k[9],
-        k[10],
-        k[11],
-        k[12],
-        k[13],
-        k[14],
-        k[15],
-        security_level,
-        encryption_key_len,
-    ]
+    let mut octets = [0; 18];
+    write(&mut octets, 0, &ltk.to_le_bytes());
+    write(&mut octets, 16, &[security_level, encryption_key_len]);
+    octets
 }
 
 impl Question {
     pub fn kind(self) -> u8
         ensures { result ≡ question_kind self }
     {
-        match self {
-            Question::FindBond => 0x30,
-            Question::LocalIrk => 0x31,
-            Question::LocalIdentityAddress => 0x32,
-            Question::BondingFlag => 0x33,
-            Question::OobAvailable => 0x34,
-        }
+        self as u8
     }
 }
 
@@ -253,13 +192,7 @@ impl Draw {
     pub fn kind(self) -> u8
         ensures { result ≡ draw_kind self }
     {
-        match self {
-            Draw::Nonce => 0x35,
-            Draw::PassKey => 0x36,
-            Draw::LongTermKey => 0x37,
-            Draw::Ediv => 0x38,
-            Draw::Rand => 0x39,
-        }
+        self as u8
     }
 }
 
@@ -268,27 +201,24 @@ impl Call {
         ensures { result ≡ kind_of self }
     {
         match self {
-            Call::SendPacket(packet) => packet.command().into_u8(),
+            Call::SendPacket(packet) => u8::from(packet.command()),
             Call::SendConnectionEvent(event) => event.kind(),
             Call::Ask(question) => question.kind(),
             Call::Draw(draw) => draw.kind(),
-            Call::EnableEncryption {
-                ltk: _,
-                security_level: _,
-                encryption_key_len: _,
-            } => 0x3A,
+            Call::EnableEncryption { .. } => 0x3A,
             Call::EnableBondedEncryption => 0x3B,
             Call::UpdateBondInformation(_) => 0x3C,
         }
     }
 
     // The octets of the call: its kind and its body.
+    #[tactic(auto, using(crate::proofs::Writing::body_length_lem), unfolding(crate::specs::Calls::call_octets))]
     pub fn size(self) -> usize
         ensures { result ≡ length (call_octets self) }
     {
         match body_length(self.kind()) {
-            BodyLength::Octets(n) => 1 + n,
-            BodyLength::Unknown => 0,
+            Some(n) => 1 + n,
+            None => 0,
         }
     }
 
@@ -299,8 +229,6 @@ impl Call {
         match self {
             Call::SendPacket(packet) => packet.write(list, at),
             Call::SendConnectionEvent(event) => event.write(list, at),
-            Call::Ask(_) => at <= list.len(),
-            Call::Draw(_) => at <= list.len(),
             Call::EnableEncryption {
                 ltk,
                 security_level,
@@ -309,11 +237,8 @@ impl Call {
                 let octets = encryption(ltk, security_level, encryption_key_len);
                 write(list, at, &octets)
             }
-            Call::EnableBondedEncryption => at <= list.len(),
-            Call::UpdateBondInformation(bond) => {
-                let octets = bond.encode();
-                write(list, at, &octets)
-            }
+            Call::UpdateBondInformation(bond) => write(list, at, &bond.encode()),
+            Call::Ask(_) | Call::Draw(_) | Call::EnableBondedEncryption => write(list, at, &[]),
         }
     }
 
@@ -321,58 +246,30 @@ impl Call {
     pub fn write(self, list: &mut [u8], at: usize) -> bool
         ensures { Written list.old at (call_octets self) result list.new }
     {
-        let room = list.len();
-        let size = self.size();
-        if room < size {
+        if list.len().saturating_sub(at) < self.size() {
             return false;
         }
-        if room - size < at {
-            return false;
-        }
-        let kind = [self.kind()];
-        write(list, at, &kind);
+        write(list, at, &[self.kind()]);
         self.write_body(list, at + 1)
     }
 }
 
 // The length of the body that a kind fixes, or that there is no such kind of call.
-#[derive(Clone, Copy)]
-pub enum BodyLength {
-    Octets(usize),
-    Unknown,
-}
-
-pub fn body_length(kind: u8) -> BodyLength
-    ensures { body_size result ≡ body_length kind }
+pub fn body_length(kind: u8) -> Option<usize>
+    ensures { result ≡ body_length kind }
 {
     match kind {
-        0x02 => BodyLength::Octets(6),
-        0x03 => BodyLength::Octets(16),
-        0x04 => BodyLength::Octets(16),
-        0x06 => BodyLength::Octets(16),
-        0x07 => BodyLength::Octets(10),
-        0x08 => BodyLength::Octets(16),
-        0x09 => BodyLength::Octets(7),
-        0x20 => BodyLength::Octets(2),
-        0x21 => BodyLength::Octets(53),
-        0x22 => BodyLength::Octets(4),
-        0x23 => BodyLength::Octets(0),
-        0x24 => BodyLength::Octets(0),
-        0x25 => BodyLength::Octets(0),
-        0x30 => BodyLength::Octets(0),
-        0x31 => BodyLength::Octets(0),
-        0x32 => BodyLength::Octets(0),
-        0x33 => BodyLength::Octets(0),
-        0x34 => BodyLength::Octets(0),
-        0x35 => BodyLength::Octets(0),
-        0x36 => BodyLength::Octets(0),
-        0x37 => BodyLength::Octets(0),
-        0x38 => BodyLength::Octets(0),
-        0x39 => BodyLength::Octets(0),
-        0x3A => BodyLength::Octets(18),
-        0x3B => BodyLength::Octets(0),
-        0x3C => BodyLength::Octets(51),
-        _ => BodyLength::Unknown,
+        0x02 => Some(6),
+        0x03 | 0x04 | 0x06 | 0x08 => Some(16),
+        0x07 => Some(10),
+        0x09 => Some(7),
+        0x20 => Some(2),
+        0x21 => Some(53),
+        0x22 => Some(4),
+        0x23..=0x25 | 0x30..=0x39 | 0x3B => Some(0),
+        0x3A => Some(18),
+        0x3C => Some(51),
+        _ => None,
     }
 }
 
@@ -380,7 +277,7 @@ pub fn body_length(kind: u8) -> BodyLength
 pub const LONGEST: usize = 164;
 
 // What a step has done so far: the octets of the calls that it has listed, and how many octets of answers it has read.
-#[derive(Clone, Copy)]
+#[derive(Clone, Copy, PartialEq, Eq)]
 pub struct Trace {
     pub octets: [u8; LONGEST],
     pub len: usize,
@@ -388,6 +285,7 @@ pub struct Trace {
 }
 
 impl Trace {
+    #[tactic(auto, unfolding(crate::specs::Calls::no_trace))]
     pub fn none() -> Trace
         ensures { result ≡ no_trace }
     {
@@ -399,38 +297,28 @@ impl Trace {
     }
 
     // One more call; where it has no room, the trace stays as it is.
-    pub fn push(self, call: Call) -> Trace
-        ensures { result ≡ push_of self call }
+    #[tactic(auto, using(octets::proofs::Parts::fitting), unfolding(crate::specs::Calls::push_of, octets::specs::Octets::write_at))]
+    pub fn push(&mut self, call: Call)
+        ensures { self.new ≡ push_of self.old call }
     {
-        let at = self.len;
-        let mut octets = self.octets;
-        if call.write(&mut octets, at) {
-            return Trace {
-                octets,
-                len: at + call.size(),
-                read: self.read,
-            };
+        if call.write(&mut self.octets, self.len) {
+            self.len += call.size();
         }
-        self
     }
 
     // The octets of all calls.
+    #[tactic(auto, unfolding(crate::specs::Calls::listed))]
     pub fn size(self) -> usize
         ensures { result ≡ length (listed self) }
     {
-        if self.len < LONGEST {
-            self.len
-        } else {
-            LONGEST
-        }
+        self.len.min(LONGEST)
     }
 
     // Lays the calls over list from its beginning on, as `octets::write` does.
+    #[tactic(auto, unfolding(crate::specs::Calls::listed))]
     pub fn write(self, list: &mut [u8]) -> bool
         ensures { Written list.old 0 (listed self) result list.new }
     {
-        let octets = self.octets;
-        let n = self.size();
-        write(list, 0, &octets[..n])
+        write(list, 0, &self.octets[..self.size()])
     }
 }

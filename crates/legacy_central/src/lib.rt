@@ -1,19 +1,18 @@
 // legacy_central.rs: the initiator's machine. Each function of the Rust has one of its name here or in the crate
-// central_helpers; a state goes in by value, and what it becomes comes back beside the calls made. What
-// legacy_peripheral.rs has in the same words stands in the crate phases: `enter`, `store_confirm_bytes`,
-// `handle_encryption_information`, `handle_identity_information`.
+// central_helpers. What legacy_peripheral.rs has in the same words stands in the crate phases: `enter`,
+// `store_confirm_bytes`, `handle_encryption_information`, `handle_identity_information`.
 #![tactic(auto)]
 
-ghost use Rattle.std.specs.Prelude.{◌≡◌};
-ghost use Rattle.host.specs.Calls.{no_trace};
+ghost use Rattle.std.specs.Prelude.{◌≡◌, OnErr};
 ghost use Rattle.machine.specs.declared.Phase.TheVariants as phase;
 ghost use Rattle.protocol.specs.Handlers.{on_receiving_keys, other_input, handle_encryption_information, names_encryption_key, names_identity_key};
-ghost use Rattle.protocol.specs.LegacyCentral.{await_identity_or_send, await_keys, handle_link_encrypted_success, handle_peer_confirm, handle_pass_key_input};
+ghost use Rattle.protocol.specs.LegacyCentral.{await_identity_or_send, handle_link_encrypted_success, handle_peer_confirm, handle_pass_key_input};
 ghost use Rattle.protocol.specs.LegacyCentral.{handle_pairing_response, handle_central_identification, handle_identity_address_information};
 ghost use Rattle.protocol.specs.LegacyCentral.{link_encrypted, transition_from, transition, handle_input};
 ghost use Rattle.ops.specs.Run.{run};
-ghost use Rattle.handlers.specs.Outcomes.{ran_outcome, finished_of};
+ghost use Rattle.handlers.specs.Outcomes.{ran_machine, ran_entered};
 
+use answer::Stop;
 use bond::Error;
 use central_helpers::{
     answer_confirm, begin_confirm, begin_method, handle_pairing_random, send_all_keys,
@@ -21,461 +20,343 @@ use central_helpers::{
 };
 use crypto::{Confirm, LongTermKey};
 use handlers::input::{
-    LinkEncrypted, OobData, PassKeyTyped, is_command, is_pass_key_cancel, link_encrypted,
-    oob_data_received, other_input, pass_key_input,
+    is_command, is_pass_key_cancel, link_encrypted, oob_data_received, other_input, pass_key_input,
 };
 use handlers::keys::{EncryptionKeys, with_identity_address, with_keys};
-use handlers::outcome::{Finished, Outcome};
 use handlers::payload::{
-    TryAddress, TryFeatures, TryIdentification, TryWord, read_features, read_identification,
-    read_identity_address, read_payload_word,
+    command_octets, read_features, read_identification, read_identity_address, read_payload_word,
 };
-use host::Trace;
-use machine::{ConfirmBytes, ConfirmPhaseData, Input, Machine, PairingData, Phase};
-use octets::Word128;
-use ops::Delivered;
+use machine::{Input, Machine, Phase};
+use octets::octets_at;
+use ops::{Halt, Ops};
 use phases::{
     confirm_phase_data, handle_encryption_information, settle, store_confirm_bytes,
     waiting_identity,
 };
-use types::{Command, KeyDistributionFlags, Reason};
-use util::legacy_pairing_method;
+use types::{Command, Reason};
+use util::choose_legacy_pairing_method;
 
 // --- FSM core ---
 
 // One input: the transition, then the calls on entering the state that it gives.
-pub fn handle_input(answers: &[u8], current: Machine, input: Input, payload: &[u8]) -> Finished
-    ensures { result ≡ finished_of current (run answers.now (handle_input current input payload.now) no_trace) }
+#[tactic(auto, using(ops::proofs::Laws::run_bind), unfolding(protocol::specs::LegacyCentral::handle_input))]
+pub fn handle_input(
+    ops: &mut Ops<'_>,
+    machine: &mut Machine,
+    input: Input,
+    payload: &[u8],
+) -> Result<(), Stop>
+    ensures ran { ran_entered ops.new.trace machine.new result ≡ run ops.old.answers.now (handle_input machine.old input payload.now) ops.old.trace }
+    ensures answers { ops.new.answers ≡ ops.old.answers }
+    ensures kept { OnErr result (machine.new ≡ machine.old) }
 {
-    let turned = transition(Trace::none(), answers, current, input, payload);
-    settle(turned, answers, current)
+    let before = *machine;
+    let turned = transition(ops, machine, input, payload);
+    settle(ops, machine, before, turned)
 }
 
 // A row for each state.
+#[tactic(auto, unfolding(protocol::specs::LegacyCentral::transition))]
 fn transition(
-    trace: Trace,
-    answers: &[u8],
-    current: Machine,
+    ops: &mut Ops<'_>,
+    machine: &mut Machine,
     input: Input,
     payload: &[u8],
-) -> Outcome
-    ensures { ran_outcome result ≡ run answers.now (transition current input payload.now) trace }
+) -> Result<(), Halt>
+    ensures ran { ran_machine ops.new.trace machine.new result ≡ run ops.old.answers.now (transition machine.old input payload.now) ops.old.trace }
+    ensures answers { ops.new.answers ≡ ops.old.answers }
 {
-    let state = current.phase;
-    match state {
-        Phase::WaitingPairingResponse => {
-            return waiting_response(trace, answers, current, input, payload);
-        }
+    match machine.phase {
+        Phase::WaitingPairingResponse => waiting_response(ops, machine, input, payload),
         Phase::WaitingPassKeyInput { confirm_bytes } => {
-            return waiting_pass_key(trace, answers, current, confirm_bytes, input, payload);
+            waiting_pass_key(ops, machine, confirm_bytes, input, payload)
         }
-        Phase::WaitingOobData => return waiting_oob_data(trace, answers, current, input, payload),
-        Phase::WaitingPairingConfirm => {
-            return waiting_confirm(trace, answers, current, input, payload);
-        }
+        Phase::WaitingOobData => waiting_oob_data(ops, machine, input, payload),
+        Phase::WaitingPairingConfirm => waiting_confirm(ops, machine, input, payload),
         Phase::WaitingPairingRandom { peer_confirm } => {
-            return waiting_random(trace, answers, current, peer_confirm, input, payload);
+            waiting_random(ops, machine, peer_confirm, input, payload)
         }
-        Phase::WaitingLinkEncrypted => {
-            return waiting_encrypted(trace, answers, current, input, payload);
-        }
-        Phase::WaitingIdentitityInformation => {
-            return waiting_identity(trace, current, input, payload);
-        }
+        Phase::WaitingLinkEncrypted => waiting_encrypted(ops, machine, input, payload),
+        Phase::WaitingIdentitityInformation => Ok(waiting_identity(machine, input, payload)?),
         Phase::WaitingIdentitityAddressInformation => {
-            return waiting_address(trace, answers, current, input, payload);
+            waiting_address(ops, machine, input, payload)
         }
         Phase::ReceivingKeys {
             phase,
             received_ltk,
-        } => {
-            return receiving_keys(trace, answers, current, phase, received_ltk, input, payload);
+        } => receiving_keys(ops, machine, phase, received_ltk, input, payload),
+        Phase::Success | Phase::Error(_) | Phase::WaitingPairingRequest => {
+            Ok(other_input(machine, input, payload)?)
         }
-        Phase::Success => return other_input(trace, current, input, payload),
-        Phase::Error(_) => return other_input(trace, current, input, payload),
-        Phase::WaitingPairingRequest => return other_input(trace, current, input, payload),
     }
 }
 
 fn waiting_response(
-    trace: Trace,
-    answers: &[u8],
-    current: Machine,
+    ops: &mut Ops<'_>,
+    machine: &mut Machine,
     input: Input,
     payload: &[u8],
-) -> Outcome
-    ensures { ran_outcome result ≡ run answers.now (transition_from current payload.now input phase.WaitingPairingResponse) trace }
+) -> Result<(), Halt>
+    ensures ran { ran_machine ops.new.trace machine.new result ≡ run ops.old.answers.now (transition_from machine.old payload.now input phase.WaitingPairingResponse) ops.old.trace }
+    ensures answers { ops.new.answers ≡ ops.old.answers }
 {
-    let confirm_data = current.confirm_data;
-    let pairing_data = current.pairing_data;
     if is_command(input, Command::PairingResponse) {
-        return handle_pairing_response(trace, answers, confirm_data, pairing_data, payload);
+        return handle_pairing_response(ops, machine, payload);
     }
-    other_input(trace, current, input, payload)
+    Ok(other_input(machine, input, payload)?)
 }
 
 fn waiting_pass_key(
-    trace: Trace,
-    answers: &[u8],
-    current: Machine,
-    confirm_bytes: ConfirmBytes,
+    ops: &mut Ops<'_>,
+    machine: &mut Machine,
+    confirm_bytes: Option<Confirm>,
     input: Input,
     payload: &[u8],
-) -> Outcome
-    ensures { ran_outcome result ≡ run answers.now (transition_from current payload.now input (phase.WaitingPassKeyInput confirm_bytes)) trace }
+) -> Result<(), Halt>
+    ensures ran { ran_machine ops.new.trace machine.new result ≡ run ops.old.answers.now (transition_from machine.old payload.now input (phase.WaitingPassKeyInput confirm_bytes)) ops.old.trace }
+    ensures answers { ops.new.answers ≡ ops.old.answers }
 {
-    let confirm_data = current.confirm_data;
-    let pairing_data = current.pairing_data;
     if is_command(input, Command::PairingConfirm) {
-        return store_confirm_bytes(trace, confirm_data, pairing_data, payload);
+        return Ok(store_confirm_bytes(machine, payload)?);
     }
-    let PassKeyTyped::Input(typed) = pass_key_input(input) else {
-        if is_pass_key_cancel(input) {
-            let error = Error::Security(Reason::PasskeyEntryFailed);
-            return Outcome::failed(trace, confirm_data, pairing_data, error);
-        }
-        return other_input(trace, current, input, payload);
-    };
-    handle_pass_key_input(
-        trace,
-        answers,
-        confirm_data,
-        pairing_data,
-        typed,
-        confirm_bytes,
-    )
+    if let Some(typed) = pass_key_input(input) {
+        return handle_pass_key_input(ops, machine, typed, confirm_bytes);
+    }
+    if is_pass_key_cancel(input) {
+        return Err(Halt::Failed(Error::Security(Reason::PasskeyEntryFailed)));
+    }
+    Ok(other_input(machine, input, payload)?)
 }
 
 // OOB data is the temporary key.
 fn waiting_oob_data(
-    trace: Trace,
-    answers: &[u8],
-    current: Machine,
+    ops: &mut Ops<'_>,
+    machine: &mut Machine,
     input: Input,
     payload: &[u8],
-) -> Outcome
-    ensures { ran_outcome result ≡ run answers.now (transition_from current payload.now input phase.WaitingOobData) trace }
+) -> Result<(), Halt>
+    ensures ran { ran_machine ops.new.trace machine.new result ≡ run ops.old.answers.now (transition_from machine.old payload.now input phase.WaitingOobData) ops.old.trace }
+    ensures answers { ops.new.answers ≡ ops.old.answers }
 {
-    let confirm_data = current.confirm_data;
-    let pairing_data = current.pairing_data;
-    let preq = confirm_data.preq;
-    let pres = confirm_data.pres;
-    let OobData::Received(random) = oob_data_received(input) else {
-        return other_input(trace, current, input, payload);
-    };
-    begin_confirm(trace, answers, preq, pres, pairing_data, random)
+    if let Some(random) = oob_data_received(input) {
+        let preq = machine.confirm_data.preq;
+        let pres = machine.confirm_data.pres;
+        return begin_confirm(ops, machine, preq, pres, random);
+    }
+    Ok(other_input(machine, input, payload)?)
 }
 
 fn waiting_confirm(
-    trace: Trace,
-    answers: &[u8],
-    current: Machine,
+    ops: &mut Ops<'_>,
+    machine: &mut Machine,
     input: Input,
     payload: &[u8],
-) -> Outcome
-    ensures { ran_outcome result ≡ run answers.now (transition_from current payload.now input phase.WaitingPairingConfirm) trace }
+) -> Result<(), Halt>
+    ensures ran { ran_machine ops.new.trace machine.new result ≡ run ops.old.answers.now (transition_from machine.old payload.now input phase.WaitingPairingConfirm) ops.old.trace }
+    ensures answers { ops.new.answers ≡ ops.old.answers }
 {
-    let confirm_data = current.confirm_data;
-    let pairing_data = current.pairing_data;
     if is_command(input, Command::PairingConfirm) {
-        return handle_peer_confirm(trace, answers, confirm_data, pairing_data, payload);
+        return handle_peer_confirm(ops, machine, payload);
     }
-    other_input(trace, current, input, payload)
+    Ok(other_input(machine, input, payload)?)
 }
 
 fn waiting_random(
-    trace: Trace,
-    answers: &[u8],
-    current: Machine,
+    ops: &mut Ops<'_>,
+    machine: &mut Machine,
     peer_confirm: Confirm,
     input: Input,
     payload: &[u8],
-) -> Outcome
-    ensures { ran_outcome result ≡ run answers.now (transition_from current payload.now input (phase.WaitingPairingRandom peer_confirm)) trace }
+) -> Result<(), Halt>
+    ensures ran { ran_machine ops.new.trace machine.new result ≡ run ops.old.answers.now (transition_from machine.old payload.now input (phase.WaitingPairingRandom peer_confirm)) ops.old.trace }
+    ensures answers { ops.new.answers ≡ ops.old.answers }
 {
-    let confirm_data = current.confirm_data;
-    let pairing_data = current.pairing_data;
     if is_command(input, Command::PairingRandom) {
-        return handle_pairing_random(
-            trace,
-            answers,
-            confirm_data,
-            pairing_data,
-            peer_confirm,
-            payload,
-        );
+        return handle_pairing_random(ops, machine, peer_confirm, payload);
     }
-    other_input(trace, current, input, payload)
+    Ok(other_input(machine, input, payload)?)
 }
 
+// The host's report on encryption.
 fn waiting_encrypted(
-    trace: Trace,
-    answers: &[u8],
-    current: Machine,
+    ops: &mut Ops<'_>,
+    machine: &mut Machine,
     input: Input,
     payload: &[u8],
-) -> Outcome
-    ensures { ran_outcome result ≡ run answers.now (transition_from current payload.now input phase.WaitingLinkEncrypted) trace }
+) -> Result<(), Halt>
+    ensures ran { ran_machine ops.new.trace machine.new result ≡ run ops.old.answers.now (transition_from machine.old payload.now input phase.WaitingLinkEncrypted) ops.old.trace }
+    ensures answers { ops.new.answers ≡ ops.old.answers }
 {
-    let confirm_data = current.confirm_data;
-    let pairing_data = current.pairing_data;
-    let LinkEncrypted::Result(encrypted) = link_encrypted(input) else {
-        return other_input(trace, current, input, payload);
-    };
-    handle_link_encrypted(trace, answers, confirm_data, pairing_data, encrypted)
+    match link_encrypted(input) {
+        Some(true) => handle_link_encrypted_success(ops, machine),
+        Some(false) => Err(Halt::Failed(Error::Security(Reason::ConfirmValueFailed))),
+        None => Ok(other_input(machine, input, payload)?),
+    }
 }
 
 fn waiting_address(
-    trace: Trace,
-    answers: &[u8],
-    current: Machine,
+    ops: &mut Ops<'_>,
+    machine: &mut Machine,
     input: Input,
     payload: &[u8],
-) -> Outcome
-    ensures { ran_outcome result ≡ run answers.now (transition_from current payload.now input phase.WaitingIdentitityAddressInformation) trace }
+) -> Result<(), Halt>
+    ensures ran { ran_machine ops.new.trace machine.new result ≡ run ops.old.answers.now (transition_from machine.old payload.now input phase.WaitingIdentitityAddressInformation) ops.old.trace }
+    ensures answers { ops.new.answers ≡ ops.old.answers }
 {
-    let confirm_data = current.confirm_data;
-    let pairing_data = current.pairing_data;
     if is_command(input, Command::IdentityAddressInformation) {
-        return handle_identity_address_information(
-            trace,
-            answers,
-            confirm_data,
-            pairing_data,
-            payload,
-        );
+        return handle_identity_address_information(ops, machine, payload);
     }
-    other_input(trace, current, input, payload)
+    Ok(other_input(machine, input, payload)?)
 }
 
 // The phase says which of the two packets comes next.
 fn receiving_keys(
-    trace: Trace,
-    answers: &[u8],
-    current: Machine,
+    ops: &mut Ops<'_>,
+    machine: &mut Machine,
     phase: u8,
     received_ltk: LongTermKey,
     input: Input,
     payload: &[u8],
-) -> Outcome
-    ensures { ran_outcome result ≡ run answers.now (on_receiving_keys phase input (handle_encryption_information current.pairing_data payload.now) (handle_central_identification current.pairing_data received_ltk payload.now) (other_input current payload.now input)) trace }
+) -> Result<(), Halt>
+    ensures ran { ran_machine ops.new.trace machine.new result ≡ run ops.old.answers.now (on_receiving_keys phase input (handle_encryption_information machine.old.pairing_data payload.now) (handle_central_identification machine.old.pairing_data received_ltk payload.now) (other_input machine.old payload.now input)) ops.old.trace }
+    ensures answers { ops.new.answers ≡ ops.old.answers }
 {
-    let confirm_data = current.confirm_data;
-    let pairing_data = current.pairing_data;
-    if phase == 0 {
-        if is_command(input, Command::EncryptionInformation) {
-            return handle_encryption_information(trace, confirm_data, pairing_data, payload);
-        }
-        return other_input(trace, current, input, payload);
+    if phase == 0 && is_command(input, Command::EncryptionInformation) {
+        return Ok(handle_encryption_information(machine, payload)?);
     }
-    if phase == 1 {
-        if is_command(input, Command::CentralIdentification) {
-            return handle_central_identification(
-                trace,
-                answers,
-                confirm_data,
-                pairing_data,
-                received_ltk,
-                payload,
-            );
-        }
-        return other_input(trace, current, input, payload);
+    if phase == 1 && is_command(input, Command::CentralIdentification) {
+        return handle_central_identification(ops, machine, received_ltk, payload);
     }
-    other_input(trace, current, input, payload)
-}
-
-// The host's report on encryption.
-fn handle_link_encrypted(
-    trace: Trace,
-    answers: &[u8],
-    confirm_data: ConfirmPhaseData,
-    pairing_data: PairingData,
-    encrypted: bool,
-) -> Outcome
-    ensures { ran_outcome result ≡ run answers.now (link_encrypted pairing_data encrypted) trace }
-{
-    if encrypted {
-        return handle_link_encrypted_success(trace, answers, confirm_data, pairing_data);
-    }
-    let error = Error::Security(Reason::ConfirmValueFailed);
-    Outcome::failed(trace, confirm_data, pairing_data, error)
+    Ok(other_input(machine, input, payload)?)
 }
 
 // --- Transition helpers ---
 
-fn handle_link_encrypted_success(
-    trace: Trace,
-    answers: &[u8],
-    confirm_data: ConfirmPhaseData,
-    pairing_data: PairingData,
-) -> Outcome
-    ensures { ran_outcome result ≡ run answers.now (handle_link_encrypted_success pairing_data) trace }
+#[tactic(auto, unfolding(protocol::specs::LegacyCentral::handle_link_encrypted_success, protocol::specs::LegacyCentral::await_keys))]
+fn handle_link_encrypted_success(ops: &mut Ops<'_>, machine: &mut Machine) -> Result<(), Halt>
+    ensures ran { ran_machine ops.new.trace machine.new result ≡ run ops.old.answers.now (handle_link_encrypted_success machine.old.pairing_data) ops.old.trace }
+    ensures answers { ops.new.answers ≡ ops.old.answers }
 {
-    if pairing_data.want_bonding() {
-        // the peripheral's keys come first, then the central sends its own
-        return receive_keys(trace, answers, confirm_data, pairing_data);
+    if !machine.pairing_data.want_bonding() {
+        machine.enters(Phase::Success);
+        return Ok(());
     }
-    Outcome::next(trace, confirm_data, pairing_data, Phase::Success)
-}
-
-// The peripheral's encryption key is awaited where the response names it.
-fn receive_keys(
-    trace: Trace,
-    answers: &[u8],
-    confirm_data: ConfirmPhaseData,
-    pairing_data: PairingData,
-) -> Outcome
-    ensures { ran_outcome result ≡ run answers.now (await_keys pairing_data (names_encryption_key pairing_data.peer_features.responder_key_distribution)) trace }
-{
-    let named = pairing_data.peer_features.responder_key_distribution;
-    if named.encryption_key() {
-        let phase = Phase::ReceivingKeys {
+    // the peripheral's keys come first, then the central sends its own
+    let features = machine.pairing_data.peer_features;
+    if features.responder_key_distribution.encryption_key() {
+        machine.enters(Phase::ReceivingKeys {
             phase: 0,
-            received_ltk: LongTermKey(Word128 { low: 0, high: 0 }),
-        };
-        return Outcome::next(trace, confirm_data, pairing_data, phase);
+            received_ltk: LongTermKey(0),
+        });
+        return Ok(());
     }
-    identity_or_own_keys(trace, answers, confirm_data, pairing_data, named)
+    identity_or_own_keys(ops, machine)
 }
 
 // The peripheral's identity key is awaited where the response names it; else the central sends its keys.
-fn identity_or_own_keys(
-    trace: Trace,
-    answers: &[u8],
-    confirm_data: ConfirmPhaseData,
-    pairing_data: PairingData,
-    named: KeyDistributionFlags,
-) -> Outcome
-    ensures { ran_outcome result ≡ run answers.now (await_identity_or_send pairing_data (names_identity_key named)) trace }
+#[tactic(auto, unfolding(protocol::specs::LegacyCentral::await_identity_or_send))]
+fn identity_or_own_keys(ops: &mut Ops<'_>, machine: &mut Machine) -> Result<(), Halt>
+    ensures ran { ran_machine ops.new.trace machine.new result ≡ run ops.old.answers.now (await_identity_or_send machine.old.pairing_data (names_identity_key machine.old.pairing_data.peer_features.responder_key_distribution)) ops.old.trace }
+    ensures answers { ops.new.answers ≡ ops.old.answers }
 {
-    if named.identity_key() {
-        let phase = Phase::WaitingIdentitityInformation;
-        return Outcome::next(trace, confirm_data, pairing_data, phase);
+    let features = machine.pairing_data.peer_features;
+    if features.responder_key_distribution.identity_key() {
+        machine.enters(Phase::WaitingIdentitityInformation);
+        return Ok(());
     }
-    send_all_keys(trace, answers, confirm_data, pairing_data)
+    send_all_keys(ops, machine)
 }
 
-fn handle_peer_confirm(
-    trace: Trace,
-    answers: &[u8],
-    confirm_data: ConfirmPhaseData,
-    pairing_data: PairingData,
-    payload: &[u8],
-) -> Outcome
-    ensures { ran_outcome result ≡ run answers.now (handle_peer_confirm confirm_data pairing_data payload.now) trace }
+#[tactic(auto, unfolding(protocol::specs::LegacyCentral::handle_peer_confirm))]
+fn handle_peer_confirm(ops: &mut Ops<'_>, machine: &mut Machine, payload: &[u8]) -> Result<(), Halt>
+    ensures ran { ran_machine ops.new.trace machine.new result ≡ run ops.old.answers.now (handle_peer_confirm machine.old.confirm_data machine.old.pairing_data payload.now) ops.old.trace }
+    ensures answers { ops.new.answers ≡ ops.old.answers }
 {
-    let TryWord::Ok(word) = read_payload_word(payload) else {
-        let error = Error::Security(Reason::InvalidParameters);
-        return Outcome::failed(trace, confirm_data, pairing_data, error);
-    };
-    answer_confirm(trace, answers, confirm_data, pairing_data, Confirm(word))
+    let word = read_payload_word(payload).ok_or(Error::Security(Reason::InvalidParameters))?;
+    answer_confirm(ops, machine, Confirm(word))
 }
 
 // The passkey is the temporary key.
+#[tactic(auto, unfolding(protocol::specs::LegacyCentral::handle_pass_key_input, protocol::specs::LegacyCentral::send_mconfirm, protocol::specs::LegacyCentral::send_mrand))]
 fn handle_pass_key_input(
-    trace: Trace,
-    answers: &[u8],
-    confirm_data: ConfirmPhaseData,
-    pairing_data: PairingData,
+    ops: &mut Ops<'_>,
+    machine: &mut Machine,
     input: u32,
-    confirm_bytes: ConfirmBytes,
-) -> Outcome
-    ensures { ran_outcome result ≡ run answers.now (handle_pass_key_input confirm_data pairing_data input confirm_bytes) trace }
+    confirm_bytes: Option<Confirm>,
+) -> Result<(), Halt>
+    ensures ran { ran_machine ops.new.trace machine.new result ≡ run ops.old.answers.now (handle_pass_key_input machine.old.confirm_data machine.old.pairing_data input confirm_bytes) ops.old.trace }
+    ensures answers { ops.new.answers ≡ ops.old.answers }
 {
-    let preq = confirm_data.preq;
-    let pres = confirm_data.pres;
-    let tk = Word128 {
-        low: input as u64,
-        high: 0,
-    };
-    let with_tk = confirm_phase_data(tk, preq, pres);
-    let sent = send_mconfirm(trace, answers, with_tk, pairing_data);
-    let trace1 = sent.trace;
-    let with_nonce = sent.confirm_data;
-    let answer = sent.answer;
-    let Delivered::Yes = answer else {
-        return Outcome::not(trace1, confirm_data, pairing_data, answer.halt());
-    };
-    let ConfirmBytes::Some(peer_confirm) = confirm_bytes else {
-        return Outcome::next(
-            trace1,
-            with_nonce,
-            pairing_data,
-            Phase::WaitingPairingConfirm,
-        );
-    };
-    answer_confirm(trace1, answers, with_nonce, pairing_data, peer_confirm)
+    let preq = machine.confirm_data.preq;
+    let pres = machine.confirm_data.pres;
+    machine.confirm_data = confirm_phase_data(u128::from(input), preq, pres);
+    let nonce = send_mconfirm(ops, machine)?;
+    machine.confirm_data.local_nonce = nonce;
+    match confirm_bytes {
+        Some(peer_confirm) => answer_confirm(ops, machine, peer_confirm),
+        None => {
+            machine.enters(Phase::WaitingPairingConfirm);
+            Ok(())
+        }
+    }
 }
 
 // --- Protocol helpers ---
 
+#[tactic(auto, unfolding(protocol::specs::LegacyCentral::handle_pairing_response, protocol::specs::Handlers::features_in))]
 fn handle_pairing_response(
-    trace: Trace,
-    answers: &[u8],
-    confirm_data: ConfirmPhaseData,
-    pairing_data: PairingData,
+    ops: &mut Ops<'_>,
+    machine: &mut Machine,
     payload: &[u8],
-) -> Outcome
-    ensures { ran_outcome result ≡ run answers.now (handle_pairing_response confirm_data pairing_data payload.now) trace }
+) -> Result<(), Halt>
+    ensures ran { ran_machine ops.new.trace machine.new result ≡ run ops.old.answers.now (handle_pairing_response machine.old.confirm_data machine.old.pairing_data payload.now) ops.old.trace }
+    ensures answers { ops.new.answers ≡ ops.old.answers }
 {
-    let preq = confirm_data.preq;
-    let local_features = pairing_data.local_features;
-    let read = read_features(Command::PairingResponse, payload);
-    let pres = read.octets;
-    let features = read.features;
-    let TryFeatures::Ok(peer_features) = features else {
-        let error = Error::Security(Reason::InvalidParameters);
-        return Outcome::failed(trace, confirm_data, pairing_data, error);
-    };
-    let pairing_method = legacy_pairing_method(local_features, peer_features);
-    let changed = PairingData {
-        peer_features,
-        pairing_method,
-        ..pairing_data
-    };
-    begin_method(trace, answers, preq, pres, changed, pairing_method)
+    let peer_features = read_features(payload)?;
+    let preq = machine.confirm_data.preq;
+    let pres = command_octets(Command::PairingResponse, octets_at::<6>(payload, 0));
+    let local_features = machine.pairing_data.local_features;
+    let pairing_method = choose_legacy_pairing_method(local_features, peer_features);
+    machine.pairing_data.peer_features = peer_features;
+    machine.pairing_data.pairing_method = pairing_method;
+    begin_method(ops, machine, preq, pres, pairing_method)
 }
 
 // The bond keeps the peripheral's keys.
+#[tactic(auto, unfolding(protocol::specs::LegacyCentral::handle_central_identification, protocol::specs::Handlers::with_keys))]
 fn handle_central_identification(
-    trace: Trace,
-    answers: &[u8],
-    confirm_data: ConfirmPhaseData,
-    pairing_data: PairingData,
+    ops: &mut Ops<'_>,
+    machine: &mut Machine,
     received_ltk: LongTermKey,
     payload: &[u8],
-) -> Outcome
-    ensures { ran_outcome result ≡ run answers.now (handle_central_identification pairing_data received_ltk payload.now) trace }
+) -> Result<(), Halt>
+    ensures ran { ran_machine ops.new.trace machine.new result ≡ run ops.old.answers.now (handle_central_identification machine.old.pairing_data received_ltk payload.now) ops.old.trace }
+    ensures answers { ops.new.answers ≡ ops.old.answers }
 {
-    let named = pairing_data.peer_features.responder_key_distribution;
-    let TryIdentification::Ok { ediv, rand } = read_identification(payload) else {
-        let error = Error::Security(Reason::InvalidParameters);
-        return Outcome::failed(trace, confirm_data, pairing_data, error);
-    };
+    let (ediv, rand) = read_identification(payload)?;
     let keys = EncryptionKeys {
         ltk: received_ltk,
         ediv,
         rand,
     };
-    let changed = with_keys(pairing_data, keys);
-    identity_or_own_keys(trace, answers, confirm_data, changed, named)
+    machine.pairing_data = with_keys(machine.pairing_data, keys);
+    identity_or_own_keys(ops, machine)
 }
 
+#[tactic(auto, unfolding(protocol::specs::LegacyCentral::handle_identity_address_information, protocol::specs::Handlers::with_identity_address, machine::specs::Machine::want_bonding))]
 fn handle_identity_address_information(
-    trace: Trace,
-    answers: &[u8],
-    confirm_data: ConfirmPhaseData,
-    pairing_data: PairingData,
+    ops: &mut Ops<'_>,
+    machine: &mut Machine,
     payload: &[u8],
-) -> Outcome
-    ensures { ran_outcome result ≡ run answers.now (handle_identity_address_information pairing_data payload.now) trace }
+) -> Result<(), Halt>
+    ensures ran { ran_machine ops.new.trace machine.new result ≡ run ops.old.answers.now (handle_identity_address_information machine.old.pairing_data payload.now) ops.old.trace }
+    ensures answers { ops.new.answers ≡ ops.old.answers }
 {
-    let TryAddress::Ok(peer_address) = read_identity_address(payload) else {
-        return Outcome::failed(trace, confirm_data, pairing_data, Error::InvalidValue);
-    };
-    let changed = with_identity_address(pairing_data, peer_address);
-    if pairing_data.want_bonding() {
-        return send_all_keys(trace, answers, confirm_data, changed);
+    let peer_address = read_identity_address(payload)?;
+    machine.pairing_data = with_identity_address(machine.pairing_data, peer_address);
+    if machine.pairing_data.want_bonding() {
+        return send_all_keys(ops, machine);
     }
-    Outcome::next(trace, confirm_data, changed, Phase::Success)
+    machine.enters(Phase::Success);
+    Ok(())
 }

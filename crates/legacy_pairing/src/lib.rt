@@ -1,13 +1,34 @@
 // The functions of the static library: C names for octet_steps and octet_values. include/legacy_pairing.h declares them
 // for C, bindings/rust is a safe crate over them. Octet strings run least significant octet first, as on the air.
+// Numbers for results, and references for what else is given back, are what C can take.
 #![tactic(auto)]
 
 ghost use Rattle.std.specs.Prelude.{◌≡◌};
+ghost use Rattle.std.specs.Result.{MatchResult};
 ghost use Rattle.octet_values.specs.Values.{wrote, read_features_on, write_features_on, c1_on, s1_on, counted, count_on, call_left, call_on};
 ghost use Rattle.octet_steps.specs.Steps.{step_left, step_on, new_on};
 
+use octet_steps::StepError;
+
+// What a function returns that has done all; the numbers of the errors are theirs.
+const DONE: u8 = 0;
+
+// What a step returns that wants an answer.
+const WANTS: u8 = 255;
+
+// The number of a result: 0, or that of its error.
+fn code<E: Into<u8>>(given: Result<(), E>) -> u8
+    ensures { MatchResult given (λ _. result ≡ 0) (λ e. E.converts e result) }
+{
+    match given {
+        Ok(()) => DONE,
+        Err(e) => e.into(),
+    }
+}
+
 // One step of the machine whose record is given, of role 0 (terminal) or 1 (head), on an input, the host's answers so
 // far and a call list of at least 164 octets. A step that ended has written the record anew; one that wants has not.
+// Of the two counts, a step refused by 1 to 3 sets both to 0; any other refusal leaves them.
 #[unsafe(no_mangle)]
 pub extern "C" fn legacy_pairing_step(
     role: u8,
@@ -21,7 +42,20 @@ pub extern "C" fn legacy_pairing_step(
 ) -> u8
     ensures { step_left result machine.new list.new read.new written.new ≡ step_on role machine.old input payload.now answers.now list.old read.old written.old }
 {
-    octet_steps::step_machine(role, machine, input, payload, answers, list, read, written)
+    match octet_steps::step_machine(role, machine, input, payload, answers, list) {
+        Ok(progress) => {
+            *read = progress.read;
+            *written = progress.written;
+            if progress.is_ended { DONE } else { WANTS }
+        }
+        Err(e) => {
+            if let StepError::Step(_) = e {
+                *read = 0;
+                *written = 0;
+            }
+            u8::from(e)
+        }
+    }
 }
 
 // Writes the record of a machine that begins a pairing: role 0 the terminal, which has sent a request with these
@@ -36,7 +70,7 @@ pub extern "C" fn legacy_pairing_new(
 ) -> u8
     ensures { wrote result machine.new ≡ new_on role local_address.now peer_address.now features.now machine.old }
 {
-    octet_steps::new_machine(role, local_address, peer_address, features, machine)
+    code(octet_steps::new_machine(role, local_address, peer_address, features, machine))
 }
 
 // Reads pairing features: of a packet's payload, the six fields, an octet each.
@@ -44,7 +78,7 @@ pub extern "C" fn legacy_pairing_new(
 pub extern "C" fn legacy_pairing_read_features(payload: &[u8], fields: &mut [u8]) -> u8
     ensures { wrote result fields.new ≡ read_features_on payload.now fields.old }
 {
-    octet_values::read_features(payload, fields)
+    code(octet_values::read_features(payload, fields))
 }
 
 // Writes pairing features: of six fields, a packet's payload.
@@ -60,7 +94,7 @@ pub extern "C" fn legacy_pairing_write_features(
 ) -> u8
     ensures { wrote result payload.new ≡ write_features_on io oob auth_req key_size initiator_keys responder_keys payload.old }
 {
-    octet_values::write_features(
+    code(octet_values::write_features(
         io,
         oob,
         auth_req,
@@ -68,7 +102,7 @@ pub extern "C" fn legacy_pairing_write_features(
         initiator_keys,
         responder_keys,
         payload,
-    )
+    ))
 }
 
 // The confirm value c1: k and r have 16 octets, preq and pres 7 (with their codes), the addresses 7 (kind and address).
@@ -84,7 +118,7 @@ pub extern "C" fn legacy_pairing_c1(
 ) -> u8
     ensures { wrote result confirm.new ≡ c1_on k.now r.now preq.now pres.now initiator.now responder.now confirm.old }
 {
-    octet_values::confirm_value(k, r, preq, pres, initiator, responder, confirm)
+    code(octet_values::confirm_value(k, r, preq, pres, initiator, responder, confirm))
 }
 
 // The short-term key s1: k, srand and mrand have 16 octets.
@@ -92,15 +126,22 @@ pub extern "C" fn legacy_pairing_c1(
 pub extern "C" fn legacy_pairing_s1(k: &[u8], srand: &[u8], mrand: &[u8], key: &mut [u8]) -> u8
     ensures { wrote result key.new ≡ s1_on k.now srand.now mrand.now key.old }
 {
-    octet_values::short_term_key(k, srand, mrand, key)
+    code(octet_values::short_term_key(k, srand, mrand, key))
 }
 
 // The number of calls of a list.
+#[tactic(auto, unfolding(octet_values::specs::Values::count_on))]
 #[unsafe(no_mangle)]
 pub extern "C" fn legacy_pairing_count_calls(list: &[u8], count: &mut usize) -> u8
     ensures { counted result count.new ≡ count_on list.now count.old }
 {
-    octet_values::count_calls(list, count)
+    match octet_values::count_calls(list) {
+        Ok(calls) => {
+            *count = calls;
+            DONE
+        }
+        Err(e) => u8::from(e),
+    }
 }
 
 // The call at an index of a list, counted from 0: its kind, and the place and the size of its body.
@@ -114,5 +155,13 @@ pub extern "C" fn legacy_pairing_call_at(
 ) -> u8
     ensures { call_left result kind.new body.new size.new ≡ call_on list.now index kind.old body.old size.old }
 {
-    octet_values::call_at(list, index, kind, body, size)
+    match octet_values::call_at(list, index) {
+        Ok(call) => {
+            *kind = call.kind;
+            *body = call.body;
+            *size = call.size;
+            DONE
+        }
+        Err(e) => u8::from(e),
+    }
 }

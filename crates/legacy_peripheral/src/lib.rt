@@ -1,508 +1,358 @@
 // legacy_peripheral.rs: the responder's machine. Each function of the Rust has one of its name here or in the crate
-// peripheral_helpers; a state goes in by value, and what it becomes comes back beside the calls made. What
-// legacy_central.rs has in the same words stands in the crate phases: `enter`, `store_confirm_bytes`,
-// `handle_encryption_information`, `handle_identity_information`.
+// peripheral_helpers. What legacy_central.rs has in the same words stands in the crate phases: `enter`,
+// `store_confirm_bytes`, `handle_encryption_information`, `handle_identity_information`.
 #![tactic(auto)]
 
-ghost use Rattle.std.specs.Prelude.{◌≡◌};
-ghost use Rattle.host.specs.Calls.{no_trace};
+ghost use Rattle.std.specs.Prelude.{◌≡◌, Ok, OnErr};
 ghost use Rattle.machine.specs.declared.Phase.TheVariants as phase;
-ghost use Rattle.protocol.specs.Handlers.{on_receiving_keys, other_input, handle_encryption_information, names_encryption_key};
-ghost use Rattle.protocol.specs.LegacyPeripheral.{identity_named, await_identity_or_succeed, await_keys, send_all_keys, handle_link_encrypted_success, answer_confirm, handle_peer_confirm, handle_pass_key_input};
-ghost use Rattle.protocol.specs.LegacyPeripheral.{handle_pairing_request, handle_central_identification, handle_identity_address_information};
+ghost use Rattle.protocol.specs.Program.{ret};
+ghost use Rattle.protocol.specs.Handlers.{on_receiving_keys, other_input, handle_encryption_information};
+ghost use Rattle.protocol.specs.LegacyPeripheral.{identity_named, await_identity_or_succeed, send_all_keys, handle_link_encrypted_success, answer_confirm, handle_peer_confirm, handle_pass_key_input};
+ghost use Rattle.protocol.specs.LegacyPeripheral.{handle_central_identification, handle_identity_address_information};
 ghost use Rattle.protocol.specs.LegacyPeripheral.{link_encrypted, transition_from, transition, handle_input};
 ghost use Rattle.ops.specs.Run.{run};
-ghost use Rattle.handlers.specs.Outcomes.{ran_outcome, Comes, finished_of};
+ghost use Rattle.handlers.specs.Outcomes.{tried, ran_machine, ran_entered};
 
+use answer::Stop;
 use bond::Error;
 use crypto::{Confirm, LongTermKey};
 use handlers::input::{
-    LinkEncrypted, OobData, PassKeyTyped, is_command, is_pass_key_cancel, link_encrypted,
-    oob_data_received, other_input, pass_key_input,
+    is_command, is_pass_key_cancel, link_encrypted, oob_data_received, other_input, pass_key_input,
 };
 use handlers::keys::{send_identity_keys, with_identity_address};
-use handlers::outcome::{Finished, Outcome};
-use handlers::payload::{
-    TryAddress, TryFeatures, TryIdentification, TryWord, read_features, read_identification,
-    read_identity_address, read_payload_word,
-};
-use host::Trace;
-use machine::{ConfirmBytes, ConfirmPhaseData, Input, Machine, PairingData, Phase};
-use octets::Word128;
-use ops::{Delivered, TakenOptionBond, try_enable_bonded_encryption};
+use handlers::payload::{read_identification, read_identity_address, read_payload_word};
+use machine::{Input, Machine, Phase};
+use ops::{Halt, Ops};
 use peripheral_helpers::{
-    handle_pairing_random, negotiate, report_bond_lost, send_encryption_keys,
-    send_pairing_response, send_sconfirm,
+    handle_pairing_random, handle_pairing_request, send_encryption_keys, send_sconfirm,
 };
 use phases::{
     confirm_phase_data, handle_encryption_information, settle, store_confirm_bytes,
     waiting_identity,
 };
-use types::{Command, KeyDistributionFlags, Reason};
+use types::{Command, Reason};
 
 // --- FSM core ---
 
 // One input: the transition, then the calls on entering the state that it gives.
-pub fn handle_input(answers: &[u8], current: Machine, input: Input, payload: &[u8]) -> Finished
-    ensures { result ≡ finished_of current (run answers.now (handle_input current input payload.now) no_trace) }
+#[tactic(auto, using(ops::proofs::Laws::run_bind), unfolding(protocol::specs::LegacyPeripheral::handle_input))]
+pub fn handle_input(
+    ops: &mut Ops<'_>,
+    machine: &mut Machine,
+    input: Input,
+    payload: &[u8],
+) -> Result<(), Stop>
+    ensures ran { ran_entered ops.new.trace machine.new result ≡ run ops.old.answers.now (handle_input machine.old input payload.now) ops.old.trace }
+    ensures answers { ops.new.answers ≡ ops.old.answers }
+    ensures kept { OnErr result (machine.new ≡ machine.old) }
 {
-    let turned = transition(Trace::none(), answers, current, input, payload);
-    settle(turned, answers, current)
+    let before = *machine;
+    let turned = transition(ops, machine, input, payload);
+    settle(ops, machine, before, turned)
 }
 
 // A row for each state.
+#[tactic(auto, unfolding(protocol::specs::LegacyPeripheral::transition))]
 fn transition(
-    trace: Trace,
-    answers: &[u8],
-    current: Machine,
+    ops: &mut Ops<'_>,
+    machine: &mut Machine,
     input: Input,
     payload: &[u8],
-) -> Outcome
-    ensures { ran_outcome result ≡ run answers.now (transition current input payload.now) trace }
+) -> Result<(), Halt>
+    ensures ran { ran_machine ops.new.trace machine.new result ≡ run ops.old.answers.now (transition machine.old input payload.now) ops.old.trace }
+    ensures answers { ops.new.answers ≡ ops.old.answers }
 {
-    let state = current.phase;
-    match state {
-        Phase::WaitingPairingRequest => {
-            return waiting_request(trace, answers, current, input, payload);
-        }
+    match machine.phase {
+        Phase::WaitingPairingRequest => waiting_request(ops, machine, input, payload),
         Phase::WaitingPassKeyInput { confirm_bytes } => {
-            return waiting_pass_key(trace, answers, current, confirm_bytes, input, payload);
+            waiting_pass_key(ops, machine, confirm_bytes, input, payload)
         }
-        Phase::WaitingOobData => return waiting_oob_data(trace, current, input, payload),
-        Phase::WaitingPairingConfirm => {
-            return waiting_confirm(trace, answers, current, input, payload);
-        }
+        Phase::WaitingOobData => Ok(waiting_oob_data(machine, input, payload)?),
+        Phase::WaitingPairingConfirm => waiting_confirm(ops, machine, input, payload),
         Phase::WaitingPairingRandom { peer_confirm } => {
-            return waiting_random(trace, answers, current, peer_confirm, input, payload);
+            waiting_random(ops, machine, peer_confirm, input, payload)
         }
-        Phase::WaitingLinkEncrypted => {
-            return waiting_encrypted(trace, answers, current, input, payload);
-        }
-        Phase::WaitingIdentitityInformation => {
-            return waiting_identity(trace, current, input, payload);
-        }
+        Phase::WaitingLinkEncrypted => waiting_encrypted(ops, machine, input, payload),
+        Phase::WaitingIdentitityInformation => Ok(waiting_identity(machine, input, payload)?),
         Phase::WaitingIdentitityAddressInformation => {
-            return waiting_address(trace, current, input, payload);
+            Ok(waiting_address(machine, input, payload)?)
         }
-        Phase::ReceivingKeys { phase, .. } => {
-            return receiving_keys(trace, current, phase, input, payload);
+        Phase::ReceivingKeys { phase, .. } => Ok(receiving_keys(machine, phase, input, payload)?),
+        Phase::Success | Phase::Error(_) | Phase::WaitingPairingResponse => {
+            Ok(other_input(machine, input, payload)?)
         }
-        Phase::Success => return other_input(trace, current, input, payload),
-        Phase::Error(_) => return other_input(trace, current, input, payload),
-        Phase::WaitingPairingResponse => return other_input(trace, current, input, payload),
     }
 }
 
 fn waiting_request(
-    trace: Trace,
-    answers: &[u8],
-    current: Machine,
+    ops: &mut Ops<'_>,
+    machine: &mut Machine,
     input: Input,
     payload: &[u8],
-) -> Outcome
-    ensures { ran_outcome result ≡ run answers.now (transition_from current payload.now input phase.WaitingPairingRequest) trace }
+) -> Result<(), Halt>
+    ensures ran { ran_machine ops.new.trace machine.new result ≡ run ops.old.answers.now (transition_from machine.old payload.now input phase.WaitingPairingRequest) ops.old.trace }
+    ensures answers { ops.new.answers ≡ ops.old.answers }
 {
-    let confirm_data = current.confirm_data;
-    let pairing_data = current.pairing_data;
     if is_command(input, Command::PairingRequest) {
-        return handle_pairing_request(trace, answers, confirm_data, pairing_data, payload);
+        return handle_pairing_request(ops, machine, payload);
     }
-    let LinkEncrypted::Result(encrypted) = link_encrypted(input) else {
-        return other_input(trace, current, input, payload);
-    };
-    handle_link_encrypted(trace, answers, confirm_data, pairing_data, true, encrypted)
+    if let Some(encrypted) = link_encrypted(input) {
+        return handle_link_encrypted(ops, machine, true, encrypted);
+    }
+    Ok(other_input(machine, input, payload)?)
 }
 
 fn waiting_pass_key(
-    trace: Trace,
-    answers: &[u8],
-    current: Machine,
-    confirm_bytes: ConfirmBytes,
+    ops: &mut Ops<'_>,
+    machine: &mut Machine,
+    confirm_bytes: Option<Confirm>,
     input: Input,
     payload: &[u8],
-) -> Outcome
-    ensures { ran_outcome result ≡ run answers.now (transition_from current payload.now input (phase.WaitingPassKeyInput confirm_bytes)) trace }
+) -> Result<(), Halt>
+    ensures ran { ran_machine ops.new.trace machine.new result ≡ run ops.old.answers.now (transition_from machine.old payload.now input (phase.WaitingPassKeyInput confirm_bytes)) ops.old.trace }
+    ensures answers { ops.new.answers ≡ ops.old.answers }
 {
-    let confirm_data = current.confirm_data;
-    let pairing_data = current.pairing_data;
     if is_command(input, Command::PairingConfirm) {
-        return store_confirm_bytes(trace, confirm_data, pairing_data, payload);
+        return Ok(store_confirm_bytes(machine, payload)?);
     }
-    let PassKeyTyped::Input(typed) = pass_key_input(input) else {
-        if is_pass_key_cancel(input) {
-            let error = Error::Security(Reason::PasskeyEntryFailed);
-            return Outcome::failed(trace, confirm_data, pairing_data, error);
-        }
-        return other_input(trace, current, input, payload);
-    };
-    handle_pass_key_input(
-        trace,
-        answers,
-        confirm_data,
-        pairing_data,
-        typed,
-        confirm_bytes,
-    )
+    if let Some(typed) = pass_key_input(input) {
+        return handle_pass_key_input(ops, machine, typed, confirm_bytes);
+    }
+    if is_pass_key_cancel(input) {
+        return Err(Halt::Failed(Error::Security(Reason::PasskeyEntryFailed)));
+    }
+    Ok(other_input(machine, input, payload)?)
 }
 
 // OOB data is the temporary key.
-fn waiting_oob_data(trace: Trace, current: Machine, input: Input, payload: &[u8]) -> Outcome
-    ensures { Comes trace (transition_from current payload.now input phase.WaitingOobData) result }
+fn waiting_oob_data(machine: &mut Machine, input: Input, payload: &[u8]) -> Result<(), Error>
+    ensures { ret (tried machine.new result) ≡ transition_from machine.old payload.now input phase.WaitingOobData }
 {
-    let confirm_data = current.confirm_data;
-    let pairing_data = current.pairing_data;
-    let preq = confirm_data.preq;
-    let pres = confirm_data.pres;
-    let OobData::Received(random) = oob_data_received(input) else {
-        return other_input(trace, current, input, payload);
+    let Some(random) = oob_data_received(input) else {
+        return other_input(machine, input, payload);
     };
-    let with_tk = confirm_phase_data(random, preq, pres);
-    Outcome::next(trace, with_tk, pairing_data, Phase::WaitingPairingConfirm)
+    let preq = machine.confirm_data.preq;
+    let pres = machine.confirm_data.pres;
+    machine.confirm_data = confirm_phase_data(random, preq, pres);
+    machine.enters(Phase::WaitingPairingConfirm);
+    Ok(())
 }
 
 fn waiting_confirm(
-    trace: Trace,
-    answers: &[u8],
-    current: Machine,
+    ops: &mut Ops<'_>,
+    machine: &mut Machine,
     input: Input,
     payload: &[u8],
-) -> Outcome
-    ensures { ran_outcome result ≡ run answers.now (transition_from current payload.now input phase.WaitingPairingConfirm) trace }
+) -> Result<(), Halt>
+    ensures ran { ran_machine ops.new.trace machine.new result ≡ run ops.old.answers.now (transition_from machine.old payload.now input phase.WaitingPairingConfirm) ops.old.trace }
+    ensures answers { ops.new.answers ≡ ops.old.answers }
 {
-    let confirm_data = current.confirm_data;
-    let pairing_data = current.pairing_data;
     if is_command(input, Command::PairingConfirm) {
-        return handle_peer_confirm(trace, answers, confirm_data, pairing_data, payload);
+        return handle_peer_confirm(ops, machine, payload);
     }
-    other_input(trace, current, input, payload)
+    Ok(other_input(machine, input, payload)?)
 }
 
 fn waiting_random(
-    trace: Trace,
-    answers: &[u8],
-    current: Machine,
+    ops: &mut Ops<'_>,
+    machine: &mut Machine,
     peer_confirm: Confirm,
     input: Input,
     payload: &[u8],
-) -> Outcome
-    ensures { ran_outcome result ≡ run answers.now (transition_from current payload.now input (phase.WaitingPairingRandom peer_confirm)) trace }
+) -> Result<(), Halt>
+    ensures ran { ran_machine ops.new.trace machine.new result ≡ run ops.old.answers.now (transition_from machine.old payload.now input (phase.WaitingPairingRandom peer_confirm)) ops.old.trace }
+    ensures answers { ops.new.answers ≡ ops.old.answers }
 {
-    let confirm_data = current.confirm_data;
-    let pairing_data = current.pairing_data;
     if is_command(input, Command::PairingRandom) {
-        return handle_pairing_random(
-            trace,
-            answers,
-            confirm_data,
-            pairing_data,
-            peer_confirm,
-            payload,
-        );
+        return handle_pairing_random(ops, machine, peer_confirm, payload);
     }
-    other_input(trace, current, input, payload)
+    Ok(other_input(machine, input, payload)?)
 }
 
 fn waiting_encrypted(
-    trace: Trace,
-    answers: &[u8],
-    current: Machine,
+    ops: &mut Ops<'_>,
+    machine: &mut Machine,
     input: Input,
     payload: &[u8],
-) -> Outcome
-    ensures { ran_outcome result ≡ run answers.now (transition_from current payload.now input phase.WaitingLinkEncrypted) trace }
+) -> Result<(), Halt>
+    ensures ran { ran_machine ops.new.trace machine.new result ≡ run ops.old.answers.now (transition_from machine.old payload.now input phase.WaitingLinkEncrypted) ops.old.trace }
+    ensures answers { ops.new.answers ≡ ops.old.answers }
 {
-    let confirm_data = current.confirm_data;
-    let pairing_data = current.pairing_data;
-    let LinkEncrypted::Result(encrypted) = link_encrypted(input) else {
-        return other_input(trace, current, input, payload);
-    };
-    handle_link_encrypted(trace, answers, confirm_data, pairing_data, false, encrypted)
+    if let Some(encrypted) = link_encrypted(input) {
+        return handle_link_encrypted(ops, machine, false, encrypted);
+    }
+    Ok(other_input(machine, input, payload)?)
 }
 
-fn waiting_address(trace: Trace, current: Machine, input: Input, payload: &[u8]) -> Outcome
-    ensures { Comes trace (transition_from current payload.now input phase.WaitingIdentitityAddressInformation) result }
+fn waiting_address(machine: &mut Machine, input: Input, payload: &[u8]) -> Result<(), Error>
+    ensures { ret (tried machine.new result) ≡ transition_from machine.old payload.now input phase.WaitingIdentitityAddressInformation }
 {
-    let confirm_data = current.confirm_data;
-    let pairing_data = current.pairing_data;
     if is_command(input, Command::IdentityAddressInformation) {
-        return handle_identity_address_information(trace, confirm_data, pairing_data, payload);
+        return handle_identity_address_information(machine, payload);
     }
-    other_input(trace, current, input, payload)
+    other_input(machine, input, payload)
 }
 
 // The phase says which of the two packets comes next; the LTK that came is not kept.
 fn receiving_keys(
-    trace: Trace,
-    current: Machine,
+    machine: &mut Machine,
     phase: u8,
     input: Input,
     payload: &[u8],
-) -> Outcome
-    ensures { Comes trace (on_receiving_keys phase input (handle_encryption_information current.pairing_data payload.now) (handle_central_identification current.pairing_data payload.now) (other_input current payload.now input)) result }
+) -> Result<(), Error>
+    ensures { ret (tried machine.new result) ≡ on_receiving_keys phase input (handle_encryption_information machine.old.pairing_data payload.now) (handle_central_identification machine.old.pairing_data payload.now) (other_input machine.old payload.now input) }
 {
-    let confirm_data = current.confirm_data;
-    let pairing_data = current.pairing_data;
-    if phase == 0 {
-        if is_command(input, Command::EncryptionInformation) {
-            return handle_encryption_information(trace, confirm_data, pairing_data, payload);
-        }
-        return other_input(trace, current, input, payload);
+    if phase == 0 && is_command(input, Command::EncryptionInformation) {
+        return handle_encryption_information(machine, payload);
     }
-    if phase == 1 {
-        if is_command(input, Command::CentralIdentification) {
-            return handle_central_identification(trace, confirm_data, pairing_data, payload);
-        }
-        return other_input(trace, current, input, payload);
+    if phase == 1 && is_command(input, Command::CentralIdentification) {
+        return handle_central_identification(machine, payload);
     }
-    other_input(trace, current, input, payload)
+    other_input(machine, input, payload)
 }
 
 // The host's report on encryption.
 fn handle_link_encrypted(
-    trace: Trace,
-    answers: &[u8],
-    confirm_data: ConfirmPhaseData,
-    pairing_data: PairingData,
+    ops: &mut Ops<'_>,
+    machine: &mut Machine,
     before_request: bool,
     encrypted: bool,
-) -> Outcome
-    ensures { ran_outcome result ≡ run answers.now (link_encrypted pairing_data before_request encrypted) trace }
+) -> Result<(), Halt>
+    ensures ran { ran_machine ops.new.trace machine.new result ≡ run ops.old.answers.now (link_encrypted machine.old.pairing_data before_request encrypted) ops.old.trace }
+    ensures answers { ops.new.answers ≡ ops.old.answers }
 {
-    if encrypted {
-        return handle_link_encrypted_success(
-            trace,
-            answers,
-            confirm_data,
-            pairing_data,
-            before_request,
-        );
+    if !encrypted {
+        return Err(Halt::Failed(Error::Security(Reason::KeyRejected)));
     }
-    let error = Error::Security(Reason::KeyRejected);
-    Outcome::failed(trace, confirm_data, pairing_data, error)
+    handle_link_encrypted_success(ops, machine, before_request)
 }
 
 // --- Transition helpers ---
 
 // `before_request` where the machine still waits for the request: the link is encrypted by an earlier bond.
+#[tactic(auto, unfolding(protocol::specs::LegacyPeripheral::handle_link_encrypted_success, protocol::specs::LegacyPeripheral::send_keys_or_await_identity))]
 fn handle_link_encrypted_success(
-    trace: Trace,
-    answers: &[u8],
-    confirm_data: ConfirmPhaseData,
-    pairing_data: PairingData,
+    ops: &mut Ops<'_>,
+    machine: &mut Machine,
     before_request: bool,
-) -> Outcome
-    ensures { ran_outcome result ≡ run answers.now (handle_link_encrypted_success pairing_data before_request) trace }
+) -> Result<(), Halt>
+    ensures ran { ran_machine ops.new.trace machine.new result ≡ run ops.old.answers.now (handle_link_encrypted_success machine.old.pairing_data before_request) ops.old.trace }
+    ensures answers { ops.new.answers ≡ ops.old.answers }
 {
     if before_request {
-        let asked = try_enable_bonded_encryption(trace, answers);
-        let trace1 = asked.trace;
-        let answer = asked.answer;
-        let TakenOptionBond::Ok(bond_information) = answer else {
-            return Outcome::not(trace1, confirm_data, pairing_data, answer.halt());
-        };
-        let changed = PairingData {
-            bond_information,
-            ..pairing_data
-        };
-        return identity_or_success(trace1, confirm_data, changed);
-    }
-    if pairing_data.want_bonding() {
+        machine.pairing_data.bond_information = ops.try_enable_bonded_encryption()?;
+    } else if machine.pairing_data.want_bonding() {
         // the peripheral sends its keys first, then receives the central's
-        return send_all_keys(trace, answers, confirm_data, pairing_data);
+        return send_all_keys(ops, machine);
     }
-    identity_or_success(trace, confirm_data, pairing_data)
+    identity_or_success(machine);
+    Ok(())
 }
 
 // The central's identity key is awaited where the request names it.
-fn identity_or_success(
-    trace: Trace,
-    confirm_data: ConfirmPhaseData,
-    pairing_data: PairingData,
-) -> Outcome
-    ensures { Comes trace (await_identity_or_succeed pairing_data (identity_named pairing_data)) result }
+#[tactic(auto, unfolding(protocol::specs::LegacyPeripheral::await_identity_or_succeed))]
+fn identity_or_success(machine: &mut Machine)
+    ensures { ret (tried machine.new (Ok tt)) ≡ await_identity_or_succeed machine.old.pairing_data (identity_named machine.old.pairing_data) }
 {
-    let peer = pairing_data.peer_features;
-    if peer.initiator_key_distribution.identity_key() {
-        let phase = Phase::WaitingIdentitityInformation;
-        return Outcome::next(trace, confirm_data, pairing_data, phase);
+    let named = machine
+        .pairing_data
+        .peer_features
+        .initiator_key_distribution;
+    if named.identity_key() {
+        machine.enters(Phase::WaitingIdentitityInformation);
+    } else {
+        machine.enters(Phase::Success);
     }
-    Outcome::next(trace, confirm_data, pairing_data, Phase::Success)
 }
 
-fn handle_peer_confirm(
-    trace: Trace,
-    answers: &[u8],
-    confirm_data: ConfirmPhaseData,
-    pairing_data: PairingData,
-    payload: &[u8],
-) -> Outcome
-    ensures { ran_outcome result ≡ run answers.now (handle_peer_confirm confirm_data pairing_data payload.now) trace }
+#[tactic(auto, unfolding(protocol::specs::LegacyPeripheral::handle_peer_confirm))]
+fn handle_peer_confirm(ops: &mut Ops<'_>, machine: &mut Machine, payload: &[u8]) -> Result<(), Halt>
+    ensures ran { ran_machine ops.new.trace machine.new result ≡ run ops.old.answers.now (handle_peer_confirm machine.old.confirm_data machine.old.pairing_data payload.now) ops.old.trace }
+    ensures answers { ops.new.answers ≡ ops.old.answers }
 {
-    let TryWord::Ok(word) = read_payload_word(payload) else {
-        let error = Error::Security(Reason::InvalidParameters);
-        return Outcome::failed(trace, confirm_data, pairing_data, error);
-    };
-    answer_confirm(trace, answers, confirm_data, pairing_data, Confirm(word))
+    let word = read_payload_word(payload).ok_or(Error::Security(Reason::InvalidParameters))?;
+    answer_confirm(ops, machine, Confirm(word))
 }
 
 // Sconfirm goes out where Mconfirm and the temporary key are known.
+#[tactic(auto, using(ops::proofs::Laws::run_bind))]
 fn answer_confirm(
-    trace: Trace,
-    answers: &[u8],
-    confirm_data: ConfirmPhaseData,
-    pairing_data: PairingData,
+    ops: &mut Ops<'_>,
+    machine: &mut Machine,
     peer_confirm: Confirm,
-) -> Outcome
-    ensures { ran_outcome result ≡ run answers.now (answer_confirm confirm_data pairing_data peer_confirm) trace }
+) -> Result<(), Halt>
+    ensures ran { ran_machine ops.new.trace machine.new result ≡ run ops.old.answers.now (answer_confirm machine.old.confirm_data machine.old.pairing_data peer_confirm) ops.old.trace }
+    ensures answers { ops.new.answers ≡ ops.old.answers }
 {
-    let sent = send_sconfirm(trace, answers, confirm_data, pairing_data);
-    let trace1 = sent.trace;
-    let with_nonce = sent.confirm_data;
-    let answer = sent.answer;
-    let Delivered::Yes = answer else {
-        return Outcome::not(trace1, confirm_data, pairing_data, answer.halt());
-    };
-    let phase = Phase::WaitingPairingRandom { peer_confirm };
-    Outcome::next(trace1, with_nonce, pairing_data, phase)
+    machine.confirm_data.local_nonce = send_sconfirm(ops, machine)?;
+    machine.enters(Phase::WaitingPairingRandom { peer_confirm });
+    Ok(())
 }
 
 // The passkey is the temporary key.
+#[tactic(auto, unfolding(protocol::specs::LegacyPeripheral::handle_pass_key_input))]
 fn handle_pass_key_input(
-    trace: Trace,
-    answers: &[u8],
-    confirm_data: ConfirmPhaseData,
-    pairing_data: PairingData,
+    ops: &mut Ops<'_>,
+    machine: &mut Machine,
     input: u32,
-    confirm_bytes: ConfirmBytes,
-) -> Outcome
-    ensures { ran_outcome result ≡ run answers.now (handle_pass_key_input confirm_data pairing_data input confirm_bytes) trace }
+    confirm_bytes: Option<Confirm>,
+) -> Result<(), Halt>
+    ensures ran { ran_machine ops.new.trace machine.new result ≡ run ops.old.answers.now (handle_pass_key_input machine.old.confirm_data machine.old.pairing_data input confirm_bytes) ops.old.trace }
+    ensures answers { ops.new.answers ≡ ops.old.answers }
 {
-    let preq = confirm_data.preq;
-    let pres = confirm_data.pres;
-    let tk = Word128 {
-        low: input as u64,
-        high: 0,
-    };
-    let with_tk = confirm_phase_data(tk, preq, pres);
-    let ConfirmBytes::Some(peer_confirm) = confirm_bytes else {
-        return Outcome::next(trace, with_tk, pairing_data, Phase::WaitingPairingConfirm);
-    };
-    answer_confirm(trace, answers, with_tk, pairing_data, peer_confirm)
+    let preq = machine.confirm_data.preq;
+    let pres = machine.confirm_data.pres;
+    machine.confirm_data = confirm_phase_data(u128::from(input), preq, pres);
+    match confirm_bytes {
+        Some(peer_confirm) => answer_confirm(ops, machine, peer_confirm),
+        None => {
+            machine.enters(Phase::WaitingPairingConfirm);
+            Ok(())
+        }
+    }
 }
 
 // Sends all of the responder's keys at once.
-fn send_all_keys(
-    trace: Trace,
-    answers: &[u8],
-    confirm_data: ConfirmPhaseData,
-    pairing_data: PairingData,
-) -> Outcome
-    ensures { ran_outcome result ≡ run answers.now (send_all_keys pairing_data) trace }
+#[tactic(auto, using(ops::proofs::Laws::run_bind), unfolding(protocol::specs::LegacyPeripheral::send_all_keys, protocol::specs::LegacyPeripheral::await_keys))]
+fn send_all_keys(ops: &mut Ops<'_>, machine: &mut Machine) -> Result<(), Halt>
+    ensures ran { ran_machine ops.new.trace machine.new result ≡ run ops.old.answers.now (send_all_keys machine.old.pairing_data) ops.old.trace }
+    ensures answers { ops.new.answers ≡ ops.old.answers }
 {
-    let named = pairing_data.local_features.responder_key_distribution;
-    let peer = pairing_data.peer_features;
-    let sent1 = send_encryption_keys(trace, answers, pairing_data, named);
-    let trace1 = sent1.trace;
-    let changed = sent1.pairing_data;
-    let answer1 = sent1.answer;
-    let Delivered::Yes = answer1 else {
-        return Outcome::not(trace1, confirm_data, changed, answer1.halt());
-    };
-    let sent2 = send_identity_keys(trace1, answers, named);
-    let trace2 = sent2.trace;
-    let answer2 = sent2.answer;
-    let Delivered::Yes = answer2 else {
-        return Outcome::not(trace2, confirm_data, changed, answer2.halt());
-    };
-    // the central's keys come next
-    receive_keys(
-        trace2,
-        confirm_data,
-        changed,
-        peer.initiator_key_distribution,
-    )
-}
-
-// The central's encryption key is awaited where the request names it.
-fn receive_keys(
-    trace: Trace,
-    confirm_data: ConfirmPhaseData,
-    pairing_data: PairingData,
-    named: KeyDistributionFlags,
-) -> Outcome
-    ensures { Comes trace (await_keys pairing_data (names_encryption_key named)) result }
-{
-    if named.encryption_key() {
-        let phase = Phase::ReceivingKeys {
+    let local = machine.pairing_data.local_features;
+    let peer = machine.pairing_data.peer_features;
+    let named = local.responder_key_distribution;
+    send_encryption_keys(ops, &mut machine.pairing_data, named)?;
+    send_identity_keys(ops, named)?;
+    // After sending our keys, receive central's keys
+    if peer.initiator_key_distribution.encryption_key() {
+        machine.enters(Phase::ReceivingKeys {
             phase: 0,
-            received_ltk: LongTermKey(Word128 { low: 0, high: 0 }),
-        };
-        return Outcome::next(trace, confirm_data, pairing_data, phase);
+            received_ltk: LongTermKey(0),
+        });
+    } else {
+        identity_or_success(machine);
     }
-    identity_or_success(trace, confirm_data, pairing_data)
+    Ok(())
 }
 
 // --- Protocol helpers ---
 
-fn handle_pairing_request(
-    trace: Trace,
-    answers: &[u8],
-    confirm_data: ConfirmPhaseData,
-    pairing_data: PairingData,
-    payload: &[u8],
-) -> Outcome
-    ensures { ran_outcome result ≡ run answers.now (handle_pairing_request pairing_data payload.now) trace }
-{
-    let told = report_bond_lost(trace, answers);
-    let trace1 = told.trace;
-    let answer1 = told.answer;
-    let Delivered::Yes = answer1 else {
-        return Outcome::not(trace1, confirm_data, pairing_data, answer1.halt());
-    };
-    let read = read_features(Command::PairingRequest, payload);
-    let preq = read.octets;
-    let features = read.features;
-    let TryFeatures::Ok(peer_features) = features else {
-        let error = Error::Security(Reason::InvalidParameters);
-        return Outcome::failed(trace1, confirm_data, pairing_data, error);
-    };
-    let agreed = negotiate(trace1, answers, pairing_data, peer_features);
-    let trace2 = agreed.trace;
-    let changed = agreed.pairing_data;
-    let answer2 = agreed.answer;
-    let Delivered::Yes = answer2 else {
-        return Outcome::not(trace2, confirm_data, changed, answer2.halt());
-    };
-    send_pairing_response(trace2, answers, preq, changed)
-}
-
 // The central's EDIV and Rand are not kept: the bond has the peripheral's own.
-fn handle_central_identification(
-    trace: Trace,
-    confirm_data: ConfirmPhaseData,
-    pairing_data: PairingData,
-    payload: &[u8],
-) -> Outcome
-    ensures { Comes trace (handle_central_identification pairing_data payload.now) result }
+#[tactic(auto, unfolding(protocol::specs::LegacyPeripheral::handle_central_identification))]
+fn handle_central_identification(machine: &mut Machine, payload: &[u8]) -> Result<(), Error>
+    ensures { ret (tried machine.new result) ≡ handle_central_identification machine.old.pairing_data payload.now }
 {
-    let TryIdentification::Ok { ediv: _, rand: _ } = read_identification(payload) else {
-        let error = Error::Security(Reason::InvalidParameters);
-        return Outcome::failed(trace, confirm_data, pairing_data, error);
-    };
-    identity_or_success(trace, confirm_data, pairing_data)
+    read_identification(payload)?;
+    identity_or_success(machine);
+    Ok(())
 }
 
-fn handle_identity_address_information(
-    trace: Trace,
-    confirm_data: ConfirmPhaseData,
-    pairing_data: PairingData,
-    payload: &[u8],
-) -> Outcome
-    ensures { Comes trace (handle_identity_address_information pairing_data payload.now) result }
+#[tactic(auto, unfolding(protocol::specs::LegacyPeripheral::handle_identity_address_information))]
+fn handle_identity_address_information(machine: &mut Machine, payload: &[u8]) -> Result<(), Error>
+    ensures { ret (tried machine.new result) ≡ handle_identity_address_information machine.old.pairing_data payload.now }
 {
-    let TryAddress::Ok(peer_address) = read_identity_address(payload) else {
-        return Outcome::failed(trace, confirm_data, pairing_data, Error::InvalidValue);
-    };
-    let changed = with_identity_address(pairing_data, peer_address);
-    Outcome::next(trace, confirm_data, changed, Phase::Success)
+    let address = read_identity_address(payload)?;
+    machine.pairing_data = with_identity_address(machine.pairing_data, address);
+    machine.enters(Phase::Success);
+    Ok(())
 }

@@ -1,34 +1,32 @@
 -- Laws of octets that are read from digits: the loops that go through them two by two. Assumes nothing.
+use Rattle.std.specs.Prelude.{Option, Some, None}
 use mathlib.Core.Logic.{⊎_elim}
 use mathlib.Core.Path.{◌≡◌, refl, sym, ap, ◌∙◌}
-use mathlib.Core.Bool.{Bool, true, false, cond, ◌&&◌, and-eq-true_iff}
-use mathlib.Core.Option.{Option, none, some}
+use mathlib.Core.Bool.{cond}
 use mathlib.Core.List.{List, [], ◌∷◌, ◌++◌, append_assoc, append-nil}
-use Prim.Native.Nat.{ℕ, suc, ◌+◌, ◌*◌, ◌-◌, ◌≤◌, ◌<◌}
+use Rattle.std.specs.Simd.{first_chunks}
+use Prim.Native.Nat.{ℕ, zero, suc, ◌+◌, ◌*◌, ◌≤◌, ◌<◌}
 use native.Mathlib.Nat.{zero-add, eq-or-lt_of_le}
 use native.Mathlib.Numerals.{add-one}
 use native.Mathlib.Omega.{arith}
-use lib.Dec.{leb, eqb}
-use borrow.Author.Tests.{leb-true, eq-eqb, ne_eqb}
+use lib.Dec.{eqb}
 use lib.ListN.{length, get_or, drop, set, length-append, length-drop, drop_of_length-le}
 use lib.Seq.{drop-cons, set_at}
 use Rattle.octets.proofs.Parts.{written}
-use Rattle.octets.proofs.Lists.{whole}
 use Rattle.octets.proofs.Parts.{over_all}
-use Rattle.lines.specs.Text.{digit0, digit9, letter_a, letter_f}
-use Rattle.lines.specs.Lines.{and_then, digit_of, octet_of, octets_in, octets_of_length, size_of, laid}
+use Rattle.lines.specs.Lines.{and_then, octet_of, octets_in, octets_of_length, size_of, laid}
 
 -- octets behind those that were read
 abbrev pub behind : List ℕ → Option (List ℕ) → Option (List ℕ)
-behind done x = and_then x (λ o. some (done ++ o))
+behind done x = and_then x (λ o. Some (done ++ o))
 
 behind_none : (x : Option (List ℕ)) → x ≡ behind [] x
-behind_none none = refl
-behind_none (some o) = refl
+behind_none None = refl
+behind_none (Some o) = refl
 
-one_more : (done : List ℕ) (x : ℕ) (y : Option (List ℕ)) → behind done (and_then y (λ o. some (x ∷ o))) ≡ behind (done ++ (x ∷ [])) y
-one_more done x none = refl
-one_more done x (some o) = ap some (sym (append_assoc done (x ∷ []) o))
+one_more : (done : List ℕ) (x : ℕ) (y : Option (List ℕ)) → behind done (and_then y (λ o. Some (x ∷ o))) ≡ behind (done ++ (x ∷ [])) y
+one_more done x None = refl
+one_more done x (Some o) = ap Some (sym (append_assoc done (x ∷ []) o))
 
 -- i octets have been read
 pub record OctetsRead (text : List ℕ) (i : ℕ) : Type 0 where
@@ -48,8 +46,20 @@ two_digits text i h =
     ∙ ap (λ (j : ℕ). get_or text (2 * i) 0 ∷ drop j text) a
     ∙ ap (λ (t : List ℕ). get_or text (2 * i) 0 ∷ t) (drop-cons text (2 * i + 1) 0 h ∙ ap (λ (j : ℕ). get_or text (2 * i + 1) 0 ∷ drop j text) b)
 
+-- the pair of digits at a place
+pub pair_at : (k : ℕ) (text : List ℕ) (i : ℕ) → i < k → 2 * k ≤ length text
+    → get_or (first_chunks 2 k text) i [] ≡ get_or text (2 * i) 0 ∷ get_or text (2 * i + 1) 0 ∷ []
+pair_at zero text i h m = absurd (omega arith)
+pair_at (suc k) [] i h m = absurd (omega arith)
+pair_at (suc k) (c ∷ []) i h m = absurd (omega arith)
+pair_at (suc k) (c ∷ d ∷ text) zero h m = refl
+pair_at (suc k) (c ∷ d ∷ text) (suc i) h m =
+    let a : 2 * suc i ≡ suc (suc (2 * i)) = omega arith in
+    let b : suc (suc (2 * i)) + 1 ≡ suc (suc (2 * i + 1)) = omega arith in
+    rw (a, b) (pair_at k text i (omega arith) (omega arith))
+
 module _ {text : List ℕ} {i : ℕ} (w : OctetsRead text i) where
-  pub read_more : {x : ℕ} → 2 * i + 1 < length text → octet_of (get_or text (2 * i) 0) (get_or text (2 * i + 1) 0) ≡ some x → OctetsRead text (i + 1)
+  pub read_more : {x : ℕ} → 2 * i + 1 < length text → octet_of (get_or text (2 * i) 0) (get_or text (2 * i + 1) 0) ≡ Some x → OctetsRead text (i + 1)
   unfolding octets_in
   read_more {x} h e =
       let number = w.number in
@@ -60,18 +70,18 @@ module _ {text : List ℕ} {i : ℕ} (w : OctetsRead text i) where
       }
 
   -- two characters that are no octet
-  pub read_bad : 2 * i + 1 < length text → octet_of (get_or text (2 * i) 0) (get_or text (2 * i + 1) 0) ≡ none → octets_in text ≡ none
+  pub read_bad : 2 * i + 1 < length text → octet_of (get_or text (2 * i) 0) (get_or text (2 * i + 1) 0) ≡ None → octets_in text ≡ None
   unfolding octets_in
   read_bad h e = w.rest ∙ rw (two_digits text i h, e)
 
-  pub read_all : length text ≡ 2 * i → octets_in text ≡ some w.done
+  pub read_all : length text ≡ 2 * i → octets_in text ≡ Some w.done
   unfolding octets_in
   read_all h =
       let e : drop (2 * i) text ≡ [] = drop_of_length-le text {i = 2 * i} (omega arith) in
       w.rest ∙ rw (e, append-nil)
 
   -- one digit is left
-  pub read_odd : length text ≡ 2 * i + 1 → octets_in text ≡ none
+  pub read_odd : length text ≡ 2 * i + 1 → octets_in text ≡ None
   unfolding octets_in
   read_odd h =
       let e : drop (2 * i) text ≡ get_or text (2 * i) 0 ∷ drop (suc (2 * i)) text = drop-cons text (2 * i) 0 (omega arith) in
@@ -79,7 +89,7 @@ module _ {text : List ℕ} {i : ℕ} (w : OctetsRead text i) where
       w.rest ∙ rw (e, z)
 
   -- where they are octets, no digit is left
-  pub read_even : 2 * i ≤ length text → length text ≤ 2 * i + 1 → (octets_in text ≡ none → ⊥) → length text ≡ 2 * i
+  pub read_even : 2 * i ≤ length text → length text ≤ 2 * i + 1 → (octets_in text ≡ None → ⊥) → length text ≡ 2 * i
   read_even a b h = ⊎_elim (λ e. sym e) (λ k. absurd (h (read_odd (omega arith)))) (eq-or-lt_of_le a)
 
 -- ---- laying them at the front of a buffer
@@ -94,7 +104,7 @@ unfolding none_read
 none_laid text buffer = record { octets = none_read text; slice = refl }
 
 module _ {text buffer left : List ℕ} {i : ℕ} (w : OctetsLaid text buffer i left) where
-  pub laid_more : (x : ℕ) → 2 * i + 1 < length text → i < length buffer → octet_of (get_or text (2 * i) 0) (get_or text (2 * i + 1) 0) ≡ some x
+  pub laid_more : (x : ℕ) → 2 * i + 1 < length text → i < length buffer → octet_of (get_or text (2 * i) 0) (get_or text (2 * i + 1) 0) ≡ Some x
       → OctetsLaid text buffer (i + 1) (set left i x)
   unfolding read_more
   laid_more x h k e =
@@ -123,26 +133,26 @@ module _ {text buffer left : List ℕ} {i : ℕ} (w : OctetsLaid text buffer i l
 
 -- ---- how many they are
 
-pub some_none : {o : List ℕ} → ◌≡◌ {A = Option (List ℕ)} (some o) none → ⊥
+pub some_none : {o : List ℕ} → ◌≡◌ {A = Option (List ℕ)} (Some o) None → ⊥
 some_none e = let z : ◌≡◌ {A = ℕ} 0 1 = cc in omega arith
 
-pub sized : (x : Option (List ℕ)) {n : ℕ} → some n ≡ size_of x → (o : List ℕ) × (x ≡ some o) × (length o ≡ n)
-sized none e = absurd (let z : ◌≡◌ {A = ℕ} 0 1 = cc in omega arith)
-sized (some o) {n} e = (o, refl, let h : n ≡ length o = cc in sym h)
+pub sized : (x : Option (List ℕ)) {n : ℕ} → Some n ≡ size_of x → (o : List ℕ) × (x ≡ Some o) × (length o ≡ n)
+sized None e = absurd (let z : ◌≡◌ {A = ℕ} 0 1 = cc in omega arith)
+sized (Some o) {n} e = (o, refl, let h : n ≡ length o = cc in sym h)
 
-pub not_sized : (x : Option (List ℕ)) → none ≡ size_of x → x ≡ none
-not_sized none e = refl
-not_sized (some o) e = absurd (let z : ◌≡◌ {A = ℕ} 0 1 = cc in omega arith)
+pub not_sized : (x : Option (List ℕ)) → None ≡ size_of x → x ≡ None
+not_sized None e = refl
+not_sized (Some o) e = absurd (let z : ◌≡◌ {A = ℕ} 0 1 = cc in omega arith)
 
 -- so many octets are twice as many digits
 
-in_parts : (a : Option ℕ) (b : Option (List ℕ)) {o : List ℕ} → and_then a (λ x. and_then b (λ t. some (x ∷ t))) ≡ some o
-    → (t : List ℕ) × (length o ≡ suc (length t)) × (b ≡ some t)
-in_parts none b e = absurd (let z : ◌≡◌ {A = ℕ} 0 1 = cc in omega arith)
-in_parts (some x) none e = absurd (let z : ◌≡◌ {A = ℕ} 0 1 = cc in omega arith)
-in_parts (some x) (some t) {o} e = (t, let h : o ≡ x ∷ t = cc in ap length h, refl)
+in_parts : (a : Option ℕ) (b : Option (List ℕ)) {o : List ℕ} → and_then a (λ x. and_then b (λ t. Some (x ∷ t))) ≡ Some o
+    → (t : List ℕ) × (length o ≡ suc (length t)) × (b ≡ Some t)
+in_parts None b e = absurd (let z : ◌≡◌ {A = ℕ} 0 1 = cc in omega arith)
+in_parts (Some x) None e = absurd (let z : ◌≡◌ {A = ℕ} 0 1 = cc in omega arith)
+in_parts (Some x) (Some t) {o} e = (t, let h : o ≡ x ∷ t = cc in ap length h, refl)
 
-pub octets_length : (text : List ℕ) {o : List ℕ} → octets_in text ≡ some o → length text ≡ 2 * length o
+pub octets_length : (text : List ℕ) {o : List ℕ} → octets_in text ≡ Some o → length text ≡ 2 * length o
 unfolding octets_in
 octets_length [] {o} e = let h : [] ≡ o = cc in ap (λ (l : List ℕ). 2 * length l) h
 octets_length (c ∷ []) e = absurd (let z : ◌≡◌ {A = ℕ} 0 1 = cc in omega arith)
@@ -153,56 +163,20 @@ octets_length (c ∷ d ∷ text) {o} e =
     omega arith
 
 module _ (n : ℕ) (text : List ℕ) where
-  pub right_length : {o : List ℕ} → length text ≡ 2 * n → octets_in text ≡ some o → octets_of_length n text ≡ some o
+  pub of_length : {o : List ℕ} → octets_in text ≡ Some o → octets_of_length n text ≡ cond (eqb (length o) n) (Some o) None
   unfolding octets_of_length
-  right_length {o} h e = let k = octets_length text e in rw (e, eq-eqb (length o) n (omega arith))
+  of_length e = rw e
 
-  pub wrong_length_lem : (length text ≡ 2 * n → ⊥) → octets_of_length n text ≡ none
-  unfolding octets_of_length
-  wrong_length_lem h = go (octets_in text) refl
-    where
-      go : (x : Option (List ℕ)) → octets_in text ≡ x → and_then x (λ o. cond (eqb (length o) n) (some o) none) ≡ none
-      go none e = refl
-      go (some o) e = let k = octets_length text e in rw (ne_eqb (length o) n (λ m. h (omega arith)))
-
-  pub no_octets : octets_in text ≡ none → octets_of_length n text ≡ none
+  pub no_octets : octets_in text ≡ None → octets_of_length n text ≡ None
   unfolding octets_of_length
   no_octets e = rw e
 
 -- ---- octets over a whole buffer, and over none of it
 
-pub laid_over : (buffer text : List ℕ) {o : List ℕ} → octets_in text ≡ some o → length buffer ≡ length o → laid buffer (octets_in text) ≡ o
+pub laid_over : (buffer text : List ℕ) {o : List ℕ} → octets_in text ≡ Some o → length buffer ≡ length o → laid buffer (octets_in text) ≡ o
 unfolding laid
 laid_over buffer text {o} e h = rw e (over_all buffer o h)
 
-pub nothing_laid : (buffer : List ℕ) → laid buffer (some []) ≡ buffer
+pub nothing_laid : (buffer : List ℕ) → laid buffer (Some []) ≡ buffer
 unfolding laid
 nothing_laid buffer = written buffer 0 [] (omega arith)
-
--- ---- one octet
-
-pub one_octet : (text : List ℕ) {x : ℕ} → length text ≡ 2 → octet_of (get_or text 0 0) (get_or text 1 0) ≡ some x → octets_in text ≡ some (x ∷ [])
-unfolding octets_in
-one_octet text h e = ap octets_in (whole 2 text h) ∙ rw e
-
-pub no_octet : (text : List ℕ) → length text ≡ 2 → octet_of (get_or text 0 0) (get_or text 1 0) ≡ none → octets_in text ≡ none
-unfolding octets_in
-no_octet text h e = ap octets_in (whole 2 text h) ∙ rw e
-
--- ---- one digit
-
-pub digit_below : (c v : ℕ) → some v ≡ digit_of c → v < 16
-unfolding digit_of
-digit_below c v e = go (leb digit0 c && leb c digit9) (leb letter_a c && leb c letter_f) refl refl e
-  where
-    go : (a b : Bool) → (leb digit0 c && leb c digit9) ≡ a → (leb letter_a c && leb c letter_f) ≡ b
-        → some v ≡ cond a (some (c - digit0)) (cond b (some (10 + (c - letter_a))) none) → v < 16
-    go true b p q e =
-        let k = leb-true c digit9 ((and-eq-true_iff (leb digit0 c) (leb c digit9)).0 p).1 in
-        let h : v ≡ c - digit0 = cc in
-        omega arith
-    go false true p q e =
-        let k = leb-true c letter_f ((and-eq-true_iff (leb letter_a c) (leb c letter_f)).0 q).1 in
-        let h : v ≡ 10 + (c - letter_a) = cc in
-        omega arith
-    go false false p q e = absurd (let z : ◌≡◌ {A = ℕ} 0 1 = cc in omega arith)

@@ -1,4 +1,4 @@
-pub mod Fields
+pub mod Splits
 pub mod Digits
 pub mod Values
 pub mod Buffers

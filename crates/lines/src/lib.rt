@@ -1,36 +1,30 @@
 // A step line: ROLE LISTLEN MACHINE INPUT PAYLOAD ANSWERS, without its line feed.
 #![tactic(auto)]
 
-ghost use Rattle.std.specs.Prelude.{◌≡◌, ◌+◌, ◌*◌, ◌≤◌, length, drop};
-ghost use Rattle.std.proofs.Math.Option.{none};
-ghost use Rattle.lines.specs.Lines.{most, digit_of, octet_of, octets_in, role_of, room_of, machine_in, link_of, event_alone, command_of, pass_key_of, oob_data_of, input_of};
-ghost use Rattle.lines.specs.Lines.{octets_field, may_carry, line_with, no_line, read_of, laid, LineRead};
-ghost use Rattle.lines.specs.Lines.{try_role, try_input, digit_in, number_in, try_machine, size_of, space_in, is_read, InOrder, line_at, SplitAs, FieldsRead};
-ghost use Rattle.record.specs.Record.{no_machine};
+ghost use Rattle.std.specs.Prelude.{◌≡◌, ◌*◌, ◌<◌, ◌≤◌, length, None, IfSome};
+ghost use Rattle.lines.specs.Lines.{most, digit_of, octet_of, octets_in, octets_of_length, octets_field, role_of, room_of};
+ghost use Rattle.lines.specs.Lines.{machine_in, link_of, event_alone, command_of, pass_key_of, oob_data_of, input_of, may_carry};
+ghost use Rattle.lines.specs.Lines.{size_of, laid, Cut, SplitAs, line_with, fields_read, LineRead};
 
-use bond::{Address, BdAddr};
-use machine::{Event, Input, Machine, PairingData, Role};
-use octets::{read_u32, read_word};
-use record::{ReadMachine, read_machine};
-use types::IoCapabilities;
+use machine::{Event, Input, Machine, Role};
+use octets::Number;
+use record::{RECORD_SIZE, read_machine};
 
 // No longer list, payload or answers.
 pub const MOST: usize = 4096;
 
-// Whether a line was read: it is malformed, or a lent buffer has no room.
-#[derive(Clone, Copy)]
-pub enum Reading {
-    Ok,
+// Why a line was not read.
+#[derive(Clone, Copy, PartialEq, Eq)]
+pub enum LineError {
     Malformed,
+    // a lent buffer is shorter than the longest payload or answers
     NoRoom,
 }
 
-// What reading a line gives: the length of the list to lend, and how many octets of payload and answers stand at the
-// front of the lent buffers. Where the line was not read, the rest is that of no line: a central with no list, a fresh
-// head of no address, command 0.
-#[derive(Clone, Copy)]
+// What is read of a line: the length of the list to lend, and how many octets of payload and answers stand at the front
+// of the lent buffers.
+#[derive(Clone, Copy, PartialEq, Eq)]
 pub struct ReadLine {
-    pub reading: Reading,
     pub role: Role,
     pub room: usize,
     pub machine: Machine,
@@ -39,109 +33,87 @@ pub struct ReadLine {
     pub answers: usize,
 }
 
-// A digit's value, or the octet of two digits.
-#[derive(Clone, Copy)]
-enum Digit {
-    Value(u8),
-    None,
-}
-
 // A lower-case hexadecimal digit.
-fn digit_value(c: u8) -> Digit
-    ensures { digit_in result ≡ digit_of c }
+#[tactic(auto, unfolding(crate::specs::Lines::digit_of))]
+fn digit_value(c: u8) -> Option<u8>
+    ensures value { result ≡ digit_of c }
+    ensures below { IfSome result (λ v. v < 16) }
 {
-    if c < b'0' {
-        return Digit::None;
+    match c {
+        b'0'..=b'9' => Some(c - b'0'),
+        b'a'..=b'f' => Some(10 + (c - b'a')),
+        _ => None,
     }
-    if c <= b'9' {
-        return Digit::Value(c - b'0');
-    }
-    if c < b'a' {
-        return Digit::None;
-    }
-    if c <= b'f' {
-        return Digit::Value(10 + (c - b'a'));
-    }
-    Digit::None
 }
 
 // The octet of two digits, the high one first.
-fn octet(high: u8, low: u8) -> Digit
-    ensures { digit_in result ≡ octet_of high low }
+#[tactic(auto, unfolding(crate::specs::Lines::octet_of))]
+fn octet(high: u8, low: u8) -> Option<u8>
+    ensures { result ≡ octet_of high low }
 {
-    let Digit::Value(h) = digit_value(high) else {
-        return Digit::None;
-    };
-    let Digit::Value(l) = digit_value(low) else {
-        return Digit::None;
-    };
-    Digit::Value(16 * h + l)
-}
-
-// A number that was read, or the number of octets in a field.
-#[derive(Clone, Copy)]
-enum Number {
-    Value(usize),
-    Malformed,
+    let high = digit_value(high)?;
+    let low = digit_value(low)?;
+    Some(16 * high + low)
 }
 
 // Two digits to each octet: how many octets they are.
-fn octets_count(text: &[u8]) -> Number
-    ensures { number_in result ≡ size_of (octets_in text.now) }
+fn octets_count(text: &[u8]) -> Option<usize>
+    ensures { result ≡ size_of (octets_in text.now) }
 {
-    let n = text.len() / 2;
-    for i in 0..n {
-        let Digit::Value(_) = octet(text[2 * i], text[2 * i + 1]) else {
-            return Number::Malformed;
-        };
+    let (pairs, rest) = text.as_chunks::<2>();
+    for [high, low] in pairs {
+        octet(*high, *low)?;
     }
-    if text.len() % 2 != 0 {
-        return Number::Malformed;
+    match rest {
+        [] => Some(pairs.len()),
+        _ => None,
     }
-    Number::Value(n)
 }
 
 // Lays the octets of the digits at the front of out.
 // requires because it has no refusal: the caller has checked the digits and the room.
 fn put_octets(text: &[u8], out: &mut [u8])
-    requires { (octets_in text.now ≡ none → ⊥) × (length text.now ≤ 2 * length out.old) }
+    requires { (octets_in text.now ≡ None → ⊥) × (length text.now ≤ 2 * length out.old) }
     ensures { out.new ≡ laid out.old (octets_in text.now) }
 {
     let n = text.len() / 2;
+    // by index: what `iter_mut` lends element by element is not known to be the whole buffer again
     for i in 0..n {
-        let Digit::Value(b) = octet(text[2 * i], text[2 * i + 1]) else {
+        let Some(b) = octet(text[2 * i], text[2 * i + 1]) else {
             return;
         };
         out[i] = b;
     }
 }
 
-// PAYLOAD or ANSWERS: how many octets the field holds.
-fn field_count(text: &[u8]) -> Number
-    ensures { number_in result ≡ size_of (octets_field text.now) }
+// So many octets.
+fn octets<const N: usize>(text: &[u8]) -> Option<[u8; N]>
+    ensures { result ≡ octets_of_length N text.now }
 {
-    if text.len() == 0 {
-        return Number::Malformed;
+    if octets_count(text)? != N {
+        return None;
     }
-    if text.len() == 1 {
-        if text[0] == b'-' {
-            return Number::Value(0);
-        }
-        return Number::Malformed;
+    let mut octets = [0; N];
+    put_octets(text, &mut octets);
+    Some(octets)
+}
+
+// PAYLOAD or ANSWERS: how many octets the field holds.
+#[tactic(auto, unfolding(crate::specs::Lines::octets_field))]
+fn field_count(text: &[u8]) -> Option<usize>
+    ensures { result ≡ size_of (octets_field text.now) }
+{
+    match text {
+        [] => None,
+        [c] => (*c == b'-').then_some(0),
+        _ => octets_count(text).filter(|n| *n <= MOST),
     }
-    let Number::Value(n) = octets_count(text) else {
-        return Number::Malformed;
-    };
-    if MOST < n {
-        return Number::Malformed;
-    }
-    Number::Value(n)
 }
 
 // Lays the octets of a field at the front of out.
 // requires because it has no refusal: the caller has checked the field and the room.
 fn put_field(text: &[u8], out: &mut [u8])
-    requires { (octets_field text.now ≡ none → ⊥) × (most ≤ length out.old) }
+    requires { (octets_field text.now ≡ None → ⊥) × (most ≤ length out.old) }
     ensures { out.new ≡ laid out.old (octets_field text.now) }
 {
     if text.len() < 2 {
@@ -150,171 +122,103 @@ fn put_field(text: &[u8], out: &mut [u8])
     put_octets(text, out)
 }
 
-// What reading a role gives.
-#[derive(Clone, Copy)]
-enum TryRole {
-    Ok(Role),
-    Malformed,
-}
-
 // ROLE: one letter.
-fn read_role(text: &[u8]) -> TryRole
-    ensures { try_role result ≡ role_of text.now }
+fn read_role(text: &[u8]) -> Option<Role>
+    ensures { result ≡ role_of text.now }
 {
-    if text.len() != 1 {
-        return TryRole::Malformed;
-    }
-    match text[0] {
-        b'c' => TryRole::Ok(Role::Central),
-        b'p' => TryRole::Ok(Role::Peripheral),
-        _ => TryRole::Malformed,
+    match text {
+        [b'c'] => Some(Role::Central),
+        [b'p'] => Some(Role::Peripheral),
+        _ => None,
     }
 }
 
 // LISTLEN: one to four decimal digits.
-fn read_room(text: &[u8]) -> Number
-    ensures { number_in result ≡ room_of text.now }
+#[tactic(auto, unfolding(crate::specs::Lines::room_of))]
+fn read_room(text: &[u8]) -> Option<usize>
+    ensures { result ≡ room_of text.now }
 {
-    if text.len() == 0 {
-        return Number::Malformed;
-    }
-    if 4 < text.len() {
-        return Number::Malformed;
+    if text.is_empty() || 4 < text.len() {
+        return None;
     }
     let mut n = 0;
-    for i in 0..text.len() {
-        let c = text[i];
-        if c < b'0' {
-            return Number::Malformed;
+    for c in text {
+        if !c.is_ascii_digit() {
+            return None;
         }
-        if b'9' < c {
-            return Number::Malformed;
-        }
-        n = 10 * n + (c - b'0') as usize;
+        n = 10 * n + (*c - b'0') as usize;
     }
-    if MOST < n {
-        return Number::Malformed;
-    }
-    Number::Value(n)
+    (n <= MOST).then_some(n)
 }
 
-// A fresh head of no address.
-fn no_machine() -> Machine
-    ensures { result ≡ no_machine }
+// MACHINE: the record of 161 octets.
+#[tactic(auto, unfolding(crate::specs::Lines::machine_in))]
+fn read_machine_field(role: Role, text: &[u8]) -> Option<Machine>
+    ensures { result ≡ machine_in role text.now }
 {
-    let none = Address {
-        kind: 0,
-        addr: BdAddr { low: 0, high: 0 },
-    };
-    let pairing_data = PairingData::new(none, none, IoCapabilities::NoInputNoOutput);
-    Machine::new(pairing_data)
-}
-
-// MACHINE: the record of 161 octets. A record of no octets, in the place of digits that are none, is refused.
-fn read_machine_field(role: Role, text: &[u8]) -> ReadMachine
-    ensures { try_machine result ≡ machine_in role text.now }
-{
-    if text.len() != 322 {
-        return read_machine(role, b"");
-    }
-    let Number::Value(_) = octets_count(text) else {
-        return read_machine(role, b"");
-    };
-    let mut octets = [0u8; 161];
-    put_octets(text, &mut octets);
-    read_machine(role, &octets)
-}
-
-// What reading an input gives.
-#[derive(Clone, Copy)]
-enum TryInput {
-    Ok(Input),
-    Malformed,
+    let record = octets::<RECORD_SIZE>(text)?;
+    read_machine(role, &record).ok()
 }
 
 // A command code, one octet.
-fn read_command(text: &[u8]) -> TryInput
-    ensures { try_input result ≡ command_of text.now }
+fn read_command(text: &[u8]) -> Option<Input>
+    ensures { result ≡ command_of text.now }
 {
-    if text.len() != 2 {
-        return TryInput::Malformed;
-    }
-    let Digit::Value(code) = octet(text[0], text[1]) else {
-        return TryInput::Malformed;
-    };
-    TryInput::Ok(Input::Command(code))
+    let [code] = octets::<1>(text)?;
+    Some(Input::Command(code))
 }
 
 // LinkEncryptedResult, `0` or `1`.
-fn read_link(text: &[u8]) -> TryInput
-    ensures { try_input result ≡ link_of text.now }
+fn read_link(text: &[u8]) -> Option<Input>
+    ensures { result ≡ link_of text.now }
 {
-    if text.len() != 1 {
-        return TryInput::Malformed;
-    }
-    match text[0] {
-        b'0' => TryInput::Ok(Input::Event(Event::LinkEncryptedResult(false))),
-        b'1' => TryInput::Ok(Input::Event(Event::LinkEncryptedResult(true))),
-        _ => TryInput::Malformed,
+    match text {
+        [b'0'] => Some(Input::Event(Event::LinkEncryptedResult(false))),
+        [b'1'] => Some(Input::Event(Event::LinkEncryptedResult(true))),
+        _ => None,
     }
 }
 
 // An event with nothing behind its letter.
-fn read_alone(event: Event, text: &[u8]) -> TryInput
-    ensures { try_input result ≡ event_alone event text.now }
+fn read_alone(event: Event, text: &[u8]) -> Option<Input>
+    ensures { result ≡ event_alone event text.now }
 {
-    if text.len() != 0 {
-        return TryInput::Malformed;
+    match text {
+        [] => Some(Input::Event(event)),
+        _ => None,
     }
-    TryInput::Ok(Input::Event(event))
 }
 
 // PassKeyInput, 4 octets.
-fn read_pass_key(text: &[u8]) -> TryInput
-    ensures { try_input result ≡ pass_key_of text.now }
+fn read_pass_key(text: &[u8]) -> Option<Input>
+    ensures { result ≡ pass_key_of text.now }
 {
-    if text.len() != 8 {
-        return TryInput::Malformed;
-    }
-    let Number::Value(_) = octets_count(text) else {
-        return TryInput::Malformed;
-    };
-    let mut octets = [0u8; 4];
-    put_octets(text, &mut octets);
-    TryInput::Ok(Input::Event(Event::PassKeyInput(read_u32(&octets, 0))))
+    let pass_key = u32::from_le_bytes(octets(text)?);
+    Some(Input::Event(Event::PassKeyInput(pass_key)))
 }
 
 // OobDataReceived, 16 octets.
-fn read_oob_data(text: &[u8]) -> TryInput
-    ensures { try_input result ≡ oob_data_of text.now }
+fn read_oob_data(text: &[u8]) -> Option<Input>
+    ensures { result ≡ oob_data_of text.now }
 {
-    if text.len() != 32 {
-        return TryInput::Malformed;
-    }
-    let Number::Value(_) = octets_count(text) else {
-        return TryInput::Malformed;
-    };
-    let mut octets = [0u8; 16];
-    put_octets(text, &mut octets);
-    TryInput::Ok(Input::Event(Event::OobDataReceived(read_word(&octets, 0))))
+    let random = u128::from_octets(octets(text)?);
+    Some(Input::Event(Event::OobDataReceived(random)))
 }
 
 // INPUT: a letter, and what belongs to it.
-fn read_input(text: &[u8]) -> TryInput
-    ensures { try_input result ≡ input_of text.now }
+#[tactic(auto, unfolding(crate::specs::Lines::input_of))]
+fn read_input(text: &[u8]) -> Option<Input>
+    ensures { result ≡ input_of text.now }
 {
-    if text.len() == 0 {
-        return TryInput::Malformed;
-    }
-    let rest = &text[1..];
-    match text[0] {
+    let (letter, rest) = text.split_first()?;
+    match letter {
         b'c' => read_command(rest),
         b'l' => read_link(rest),
         b'k' => read_alone(Event::PassKeyConfirm, rest),
         b'x' => read_alone(Event::PassKeyCancel, rest),
         b'i' => read_pass_key(rest),
         b'o' => read_oob_data(rest),
-        _ => TryInput::Malformed,
+        _ => None,
     }
 }
 
@@ -328,199 +232,84 @@ fn may_carry(input: Input, payload: usize) -> bool
     }
 }
 
-// Where the first five of six fields end; each next one begins one place behind.
+// The texts of the six fields.
 #[derive(Clone, Copy)]
-struct Ends {
-    role: usize,
-    room: usize,
-    machine: usize,
-    input: usize,
-    payload: usize,
+struct Fields<'a> {
+    role: &'a [u8],
+    room: &'a [u8],
+    machine: &'a [u8],
+    input: &'a [u8],
+    payload: &'a [u8],
+    answers: &'a [u8],
 }
 
-// What splitting a line gives.
-#[derive(Clone, Copy)]
-enum Split {
-    Fields(Ends),
-    Malformed,
-}
-
-// The place of the next space from a place on; the end of the line where there is none.
-// requires because it gives a place and has no refusal: the caller begins inside the line or at its end.
-fn next_space(line: &[u8], from: usize) -> usize
-    requires { from ≤ length line.now }
-    ensures { result ≡ from + space_in (drop from line.now) }
-{
-    for i in from..line.len() {
-        if line[i] == b' ' {
-            return i;
-        }
+impl Fields<'_> {
+    // What they give, but for the octets of the last two.
+    fn read(self) -> Option<ReadLine>
+        ensures { result ≡ fields_read self.entry }
+    {
+        let role = read_role(self.role)?;
+        let room = read_room(self.room)?;
+        let machine = read_machine_field(role, self.machine)?;
+        let input = read_input(self.input)?;
+        let payload = field_count(self.payload)?;
+        let answers = field_count(self.answers)?;
+        may_carry(input, payload).then_some(ReadLine {
+            role,
+            room,
+            machine,
+            input,
+            payload,
+            answers,
+        })
     }
-    line.len()
+}
+
+// What stands before the first space, and behind it.
+fn cut(text: &[u8]) -> Option<(&[u8], &[u8])>
+    ensures { Cut text.now result }
+{
+    let at = text.iter().position(|c| *c == b' ')?;
+    Some((&text[..at], &text[at + 1..]))
 }
 
 // Exactly six fields, with one space between, in a line that is not too long.
-fn split_line(line: &[u8]) -> Split
+fn split_line(line: &[u8]) -> Option<Fields<'_>>
     ensures { SplitAs line.now result }
 {
-    let end = line.len();
-    if 20000 < end {
-        return Split::Malformed;
+    if 20000 < line.len() {
+        return None;
     }
-    let role = next_space(line, 0);
-    if role == end {
-        return Split::Malformed;
+    let (role, rest) = cut(line)?;
+    let (room, rest) = cut(rest)?;
+    let (machine, rest) = cut(rest)?;
+    let (input, rest) = cut(rest)?;
+    let (payload, answers) = cut(rest)?;
+    match cut(answers) {
+        None => Some(Fields {
+            role,
+            room,
+            machine,
+            input,
+            payload,
+            answers,
+        }),
+        Some(_) => None,
     }
-    let room = next_space(line, role + 1);
-    if room == end {
-        return Split::Malformed;
-    }
-    let machine = next_space(line, room + 1);
-    if machine == end {
-        return Split::Malformed;
-    }
-    let input = next_space(line, machine + 1);
-    if input == end {
-        return Split::Malformed;
-    }
-    let payload = next_space(line, input + 1);
-    if payload == end {
-        return Split::Malformed;
-    }
-    let answers = next_space(line, payload + 1);
-    if answers != end {
-        return Split::Malformed;
-    }
-    Split::Fields(Ends {
-        role,
-        room,
-        machine,
-        input,
-        payload,
-    })
-}
-
-// What stands in the place of a line that was not read.
-fn no_line(reading: Reading) -> ReadLine
-    ensures { result ≡ no_line reading }
-{
-    ReadLine {
-        reading,
-        role: Role::Central,
-        room: 0,
-        machine: no_machine(),
-        input: Input::Command(0),
-        payload: 0,
-        answers: 0,
-    }
-}
-
-// What the six fields give, but for the octets of the last two.
-fn read_fields(
-    role_text: &[u8],
-    room_text: &[u8],
-    machine_text: &[u8],
-    input_text: &[u8],
-    payload_text: &[u8],
-    answers_text: &[u8],
-) -> ReadLine
-    ensures { result ≡ read_of (line_with role_text.now room_text.now machine_text.now input_text.now payload_text.now answers_text.now) }
-{
-    let TryRole::Ok(role) = read_role(role_text) else {
-        return no_line(Reading::Malformed);
-    };
-    let Number::Value(room) = read_room(room_text) else {
-        return no_line(Reading::Malformed);
-    };
-    let found = read_machine_field(role, machine_text);
-    let accepted = found.reading;
-    let machine = found.machine;
-    let record::Reading::Ok = accepted else {
-        return no_line(Reading::Malformed);
-    };
-    let TryInput::Ok(input) = read_input(input_text) else {
-        return no_line(Reading::Malformed);
-    };
-    let Number::Value(payload) = field_count(payload_text) else {
-        return no_line(Reading::Malformed);
-    };
-    let Number::Value(answers) = field_count(answers_text) else {
-        return no_line(Reading::Malformed);
-    };
-    if !may_carry(input, payload) {
-        return no_line(Reading::Malformed);
-    }
-    ReadLine {
-        reading: Reading::Ok,
-        role,
-        room,
-        machine,
-        input,
-        payload,
-        answers,
-    }
-}
-
-// Whether a line was read.
-fn was_read(reading: Reading) -> bool
-    ensures { result ≡ is_read reading }
-{
-    match reading {
-        Reading::Ok => true,
-        Reading::Malformed => false,
-        Reading::NoRoom => false,
-    }
-}
-
-// Reads a line whose fields end at these places.
-// requires because it takes the places as they are: the caller has split the line and checked the room.
-fn read_split(line: &[u8], ends: Ends, payload: &mut [u8], answers: &mut [u8]) -> ReadLine
-    requires { InOrder line.now ends × (most ≤ length payload.old) × (most ≤ length answers.old) }
-    ensures { FieldsRead (line_at line.now ends) payload.old answers.old result payload.new answers.new }
-{
-    let role_end = ends.role;
-    let room_end = ends.room;
-    let machine_end = ends.machine;
-    let input_end = ends.input;
-    let payload_end = ends.payload;
-    let room_at = role_end + 1;
-    let machine_at = room_end + 1;
-    let input_at = machine_end + 1;
-    let payload_at = input_end + 1;
-    let answers_at = payload_end + 1;
-    let end = line.len();
-    let payload_text = &line[payload_at..payload_end];
-    let answers_text = &line[answers_at..end];
-    let read = read_fields(
-        &line[0..role_end],
-        &line[room_at..room_end],
-        &line[machine_at..machine_end],
-        &line[input_at..input_end],
-        payload_text,
-        answers_text,
-    );
-    let reading = read.reading;
-    if !was_read(reading) {
-        return read;
-    }
-    put_field(payload_text, payload);
-    put_field(answers_text, answers);
-    read
 }
 
 // Reads a line, given without its line feed. The octets of PAYLOAD and ANSWERS are laid at the front of the lent
 // buffers, of 4096 octets at least; where the line is malformed or a buffer is shorter, nothing is written.
-pub fn read_line(line: &[u8], payload: &mut [u8], answers: &mut [u8]) -> ReadLine
+// They are lent, and not returned, since there is no heap.
+pub fn read_line(line: &[u8], payload: &mut [u8], answers: &mut [u8]) -> Result<ReadLine, LineError>
     ensures { LineRead line.now payload.old answers.old result payload.new answers.new }
 {
-    if payload.len() < MOST {
-        return no_line(Reading::NoRoom);
+    if payload.len() < MOST || answers.len() < MOST {
+        return Err(LineError::NoRoom);
     }
-    if answers.len() < MOST {
-        return no_line(Reading::NoRoom);
-    }
-    let Split::Fields(ends) = split_line(line) else {
-        return no_line(Reading::Malformed);
-    };
-    read_split(line, ends, payload, answers)
+    let fields = split_line(line).ok_or(LineError::Malformed)?;
+    let read = fields.read().ok_or(LineError::Malformed)?;
+    put_field(fields.payload, payload);
+    put_field(fields.answers, answers);
+    Ok(read)
 }

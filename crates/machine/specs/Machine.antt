@@ -1,8 +1,7 @@
 -- Believed: the archive's contracts and demand 3 rest on it.
 -- The data of a pairing, from pairing/mod.rs, and the part of both roles' states that a machine keeps beside its phase,
 -- from the states of legacy_peripheral.rs and legacy_central.rs. Assumes nothing.
-use Rattle.std.specs.Prelude.{ℕ, Bool, true, false, cond, ◌&&◌, ◌∷◌, replicate}
-use Rattle.octets.specs.declared.Word128.{Word128}
+use Rattle.std.specs.Prelude.{ℕ, Bool, true, false, cond, ◌&&◌, ◌∷◌, replicate, Option, Some, None, Result, Ok, Err}
 use Rattle.types.specs.Types.{command_code, default_features, feature_octets, bonding_of}
 use Rattle.types.specs.declared.types.Command.TheVariants.{PairingRequest}
 use Rattle.types.specs.declared.types.BondingFlag.{BondingFlag}
@@ -11,16 +10,14 @@ use Rattle.types.specs.declared.types.PairingFeatures.{PairingFeatures}
 use Rattle.types.specs.declared.capabilities.IoCapabilities.{IoCapabilities}
 use Rattle.util.specs.declared.util.PairingMethod.TheVariants.{JustWorks}
 use Rattle.bond.specs.declared.Address.{Address}
-use Rattle.bond.specs.declared.OptionBond.{OptionBond}
-use Rattle.bond.specs.declared.OptionBond.TheVariants as option
+use Rattle.bond.specs.declared.BondInformation.{BondInformation}
+use Rattle.bond.specs.declared.Error as error
 use Rattle.machine.specs.declared.Role.{Role}
 use Rattle.machine.specs.declared.Role.TheVariants.{Central, Peripheral}
 use Rattle.machine.specs.declared.PairingData.{PairingData}
 use Rattle.machine.specs.declared.ConfirmPhaseData.{ConfirmPhaseData}
 use Rattle.machine.specs.declared.Phase.{Phase}
 use Rattle.machine.specs.declared.Phase.TheVariants.{WaitingPairingRequest, WaitingPairingResponse, WaitingPassKeyInput, WaitingOobData, WaitingPairingConfirm, WaitingPairingRandom, WaitingLinkEncrypted, WaitingIdentitityInformation, WaitingIdentitityAddressInformation, ReceivingKeys, Success, Error}
-use Rattle.machine.specs.declared.PairingResult.{PairingResult}
-use Rattle.machine.specs.declared.PairingResult.TheVariants as result
 use Rattle.machine.specs.declared.Machine.{Machine}
 
 -- ---- PairingData
@@ -45,7 +42,7 @@ new_data local peer io =
       local_features = with_io io default_features;
       peer_features = default_features;
       pairing_method = JustWorks;
-      bond_information = option.None;
+      bond_information = None;
     }
 
 abbrev pub is_bonding : BondingFlag → Bool
@@ -62,17 +59,14 @@ want_bonding d = wishes d.local_features && wishes d.peer_features
 
 -- ---- the states of legacy_peripheral.rs and legacy_central.rs
 
-abbrev pub zero_word : Word128
-zero_word = record { low = 0; high = 0 }
-
 abbrev pub no_confirm_data : ConfirmPhaseData
-no_confirm_data = record { tk = zero_word; preq = replicate 7 0; pres = replicate 7 0; local_nonce = record { 0 = zero_word } }
+no_confirm_data = record { tk = 0; preq = replicate 7 0; pres = replicate 7 0; local_nonce = record { 0 = 0 } }
 
 abbrev pub only_preq : ConfirmPhaseData → ConfirmPhaseData
-only_preq d = record { tk = zero_word; preq = d.preq; pres = replicate 7 0; local_nonce = record { 0 = zero_word } }
+only_preq d = record { tk = 0; preq = d.preq; pres = replicate 7 0; local_nonce = record { 0 = 0 } }
 
 abbrev pub preq_and_pres : ConfirmPhaseData → ConfirmPhaseData
-preq_and_pres d = record { tk = zero_word; preq = d.preq; pres = d.pres; local_nonce = record { 0 = zero_word } }
+preq_and_pres d = record { tk = 0; preq = d.preq; pres = d.pres; local_nonce = record { 0 = 0 } }
 
 -- what the Rust's state of a phase holds of the confirm data; the rest is zero
 abbrev pub kept_by : Phase → ConfirmPhaseData → ConfirmPhaseData
@@ -94,19 +88,19 @@ abbrev pub first_phase : Role → Phase
 first_phase Central = WaitingPairingResponse
 first_phase Peripheral = WaitingPairingRequest
 
-abbrev pub result_of : Phase → PairingResult
-result_of WaitingPairingRequest = result.Pending
-result_of WaitingPairingResponse = result.Pending
-result_of (WaitingPassKeyInput b) = result.Pending
-result_of WaitingOobData = result.Pending
-result_of WaitingPairingConfirm = result.Pending
-result_of (WaitingPairingRandom p) = result.Pending
-result_of WaitingLinkEncrypted = result.Pending
-result_of WaitingIdentitityInformation = result.Pending
-result_of WaitingIdentitityAddressInformation = result.Pending
-result_of (ReceivingKeys n k) = result.Pending
-result_of Success = result.Ok
-result_of (Error e) = result.Err e
+abbrev pub result_of : Phase → Option (Result (Unit {0}) error.Error)
+result_of WaitingPairingRequest = None
+result_of WaitingPairingResponse = None
+result_of (WaitingPassKeyInput b) = None
+result_of WaitingOobData = None
+result_of WaitingPairingConfirm = None
+result_of (WaitingPairingRandom p) = None
+result_of WaitingLinkEncrypted = None
+result_of WaitingIdentitityInformation = None
+result_of WaitingIdentitityAddressInformation = None
+result_of (ReceivingKeys n k) = None
+result_of Success = Some (Ok tt)
+result_of (Error e) = Some (Err e)
 
 abbrev pub is_encrypted : Phase → Bool
 is_encrypted WaitingPairingRequest = false
@@ -130,15 +124,15 @@ new_machine d = record { phase = WaitingPairingRequest; confirm_data = no_confir
 
 -- preq is the request with its code
 abbrev pub request_data : PairingFeatures → ConfirmPhaseData
-request_data f = record { tk = zero_word; preq = command_code PairingRequest ∷ feature_octets f; pres = replicate 7 0; local_nonce = record { 0 = zero_word } }
+request_data f = record { tk = 0; preq = command_code PairingRequest ∷ feature_octets f; pres = replicate 7 0; local_nonce = record { 0 = 0 } }
 
 -- legacy_central's `from_lesc_switch`, of the request that had the local features
 unfoldable pub lesc_switch : PairingData → Machine
 lesc_switch d = record { phase = WaitingPairingResponse; confirm_data = request_data d.local_features; pairing_data = d }
 
-abbrev pub bond_level : OptionBond → ℕ
-bond_level (option.Some b) = b.security_level
-bond_level option.None = 0
+abbrev pub bond_level : Option BondInformation → ℕ
+bond_level (Some b) = b.security_level
+bond_level None = 0
 
 -- the bond's level where the link is encrypted, else 0
 unfoldable pub security_level_of : Machine → ℕ

@@ -5,14 +5,13 @@
 ghost use Rattle.std.specs.Prelude.{◌≡◌};
 ghost use Rattle.machine.specs.Machine.{new_data, want_bonding, no_confirm_data, kept_by, result_of, is_encrypted, new_machine, lesc_switch, security_level_of};
 
-use bond::{Address, Error, OptionBond};
+use bond::{Address, BondInformation, Error};
 use crypto::{Confirm, LongTermKey, Nonce};
-use octets::Word128;
 use types::{BondingFlag, Command, IoCapabilities, PairingFeatures};
 use util::PairingMethod;
 
 // The end that a machine stands for.
-#[derive(Clone, Copy)]
+#[derive(Clone, Copy, PartialEq, Eq)]
 pub enum Role {
     // the terminal, initiator
     Central,
@@ -20,17 +19,18 @@ pub enum Role {
     Peripheral,
 }
 
-#[derive(Clone, Copy)]
+#[derive(Clone, Copy, PartialEq, Eq)]
 pub struct PairingData {
     pub local_address: Address,
     pub peer_address: Address,
     pub local_features: PairingFeatures,
     pub peer_features: PairingFeatures,
     pub pairing_method: PairingMethod,
-    pub bond_information: OptionBond,
+    pub bond_information: Option<BondInformation>,
 }
 
 impl PairingData {
+    #[tactic(auto, unfolding(crate::specs::Machine::new_data))]
     pub fn new(
         local_address: Address,
         peer_address: Address,
@@ -48,30 +48,24 @@ impl PairingData {
             },
             peer_features: features,
             pairing_method: PairingMethod::JustWorks,
-            bond_information: OptionBond::None,
+            bond_information: None,
         }
     }
 
+    #[tactic(auto, unfolding(crate::specs::Machine::want_bonding))]
     pub fn want_bonding(self) -> bool
         ensures { result ≡ want_bonding self }
     {
-        let local = self.local_features;
-        let peer = self.peer_features;
-        let BondingFlag::Bonding = local.security_properties.bond() else {
-            return false;
-        };
-        let BondingFlag::Bonding = peer.security_properties.bond() else {
-            return false;
-        };
-        true
+        self.local_features.security_properties.bond() == BondingFlag::Bonding
+            && self.peer_features.security_properties.bond() == BondingFlag::Bonding
     }
 }
 
 // Data needed during the confirm/random exchange phase of legacy pairing.
-#[derive(Clone, Copy)]
+#[derive(Clone, Copy, PartialEq, Eq)]
 pub struct ConfirmPhaseData {
     // TK: 0 for JustWorks, passkey value for PassKey Entry
-    pub tk: Word128,
+    pub tk: u128,
     // Pairing Request command octets (opcode and 6 feature octets)
     pub preq: [u8; 7],
     // Pairing Response command octets (opcode and 6 feature octets)
@@ -80,22 +74,16 @@ pub struct ConfirmPhaseData {
     pub local_nonce: Nonce,
 }
 
-// The confirm value that came while a passkey was typed, or none.
-#[derive(Clone, Copy)]
-pub enum ConfirmBytes {
-    Some(Confirm),
-    None,
-}
-
 // A state of either role, without the arrays that it holds: those stand in `ConfirmPhaseData`.
-#[derive(Clone, Copy)]
+#[derive(Clone, Copy, PartialEq, Eq)]
 pub enum Phase {
     // the peripheral's first state
     WaitingPairingRequest,
     // the central's first state
     WaitingPairingResponse,
     WaitingPassKeyInput {
-        confirm_bytes: ConfirmBytes,
+        // the confirm value that came while the passkey was typed
+        confirm_bytes: Option<Confirm>,
     },
     WaitingOobData,
     WaitingPairingConfirm,
@@ -113,58 +101,28 @@ pub enum Phase {
     Error(Error),
 }
 
-// What a pairing came to.
-#[derive(Clone, Copy)]
-pub enum PairingResult {
-    // it goes on
-    Pending,
-    Ok,
-    Err(Error),
-}
-
 impl Phase {
-    pub fn result(self) -> PairingResult
+    // None while the pairing goes on.
+    pub fn result(self) -> Option<Result<(), Error>>
         ensures { result ≡ result_of self }
     {
         match self {
-            Phase::WaitingPairingRequest => PairingResult::Pending,
-            Phase::WaitingPairingResponse => PairingResult::Pending,
-            Phase::WaitingPassKeyInput { confirm_bytes: _ } => PairingResult::Pending,
-            Phase::WaitingOobData => PairingResult::Pending,
-            Phase::WaitingPairingConfirm => PairingResult::Pending,
-            Phase::WaitingPairingRandom { peer_confirm: _ } => PairingResult::Pending,
-            Phase::WaitingLinkEncrypted => PairingResult::Pending,
-            Phase::WaitingIdentitityInformation => PairingResult::Pending,
-            Phase::WaitingIdentitityAddressInformation => PairingResult::Pending,
-            Phase::ReceivingKeys {
-                phase: _,
-                received_ltk: _,
-            } => PairingResult::Pending,
-            Phase::Success => PairingResult::Ok,
-            Phase::Error(e) => PairingResult::Err(e),
+            Phase::Success => Some(Ok(())),
+            Phase::Error(e) => Some(Err(e)),
+            _ => None,
         }
     }
 
     pub fn is_encrypted(self) -> bool
         ensures { result ≡ is_encrypted self }
     {
-        match self {
-            Phase::WaitingPairingRequest => false,
-            Phase::WaitingPairingResponse => false,
-            Phase::WaitingPassKeyInput { confirm_bytes: _ } => false,
-            Phase::WaitingOobData => false,
-            Phase::WaitingPairingConfirm => false,
-            Phase::WaitingPairingRandom { peer_confirm: _ } => false,
-            Phase::WaitingLinkEncrypted => false,
-            Phase::WaitingIdentitityInformation => true,
-            Phase::WaitingIdentitityAddressInformation => true,
-            Phase::ReceivingKeys {
-                phase: _,
-                received_ltk: _,
-            } => true,
-            Phase::Success => true,
-            Phase::Error(_) => false,
-        }
+        matches!(
+            self,
+            Phase::WaitingIdentitityInformation
+                | Phase::WaitingIdentitityAddressInformation
+                | Phase::ReceivingKeys { .. }
+                | Phase::Success
+        )
     }
 }
 
@@ -174,10 +132,10 @@ impl ConfirmPhaseData {
         ensures { result ≡ no_confirm_data }
     {
         ConfirmPhaseData {
-            tk: Word128 { low: 0, high: 0 },
+            tk: 0,
             preq: [0; 7],
             pres: [0; 7],
-            local_nonce: Nonce(Word128 { low: 0, high: 0 }),
+            local_nonce: Nonce(0),
         }
     }
 
@@ -189,31 +147,20 @@ impl ConfirmPhaseData {
         let preq = self.preq;
         let pres = self.pres;
         match phase {
-            Phase::WaitingPairingRequest => none,
             Phase::WaitingPairingResponse => ConfirmPhaseData { preq, ..none },
-            Phase::WaitingPassKeyInput { confirm_bytes: _ } => ConfirmPhaseData {
+            Phase::WaitingPassKeyInput { .. } | Phase::WaitingOobData => ConfirmPhaseData {
                 preq,
                 pres,
                 ..none
             },
-            Phase::WaitingOobData => ConfirmPhaseData { preq, pres, ..none },
-            Phase::WaitingPairingConfirm => self,
-            Phase::WaitingPairingRandom { peer_confirm: _ } => self,
-            Phase::WaitingLinkEncrypted => none,
-            Phase::WaitingIdentitityInformation => none,
-            Phase::WaitingIdentitityAddressInformation => none,
-            Phase::ReceivingKeys {
-                phase: _,
-                received_ltk: _,
-            } => none,
-            Phase::Success => none,
-            Phase::Error(_) => none,
+            Phase::WaitingPairingConfirm | Phase::WaitingPairingRandom { .. } => self,
+            _ => none,
         }
     }
 }
 
 // A pairing machine of either role.
-#[derive(Clone, Copy)]
+#[derive(Clone, Copy, PartialEq, Eq)]
 pub struct Machine {
     pub phase: Phase,
     pub confirm_data: ConfirmPhaseData,
@@ -222,6 +169,7 @@ pub struct Machine {
 
 impl Machine {
     // The peripheral's machine, waiting for the request.
+    #[tactic(auto, unfolding(crate::specs::Machine::new_machine))]
     pub fn new(pairing_data: PairingData) -> Machine
         ensures { result ≡ new_machine pairing_data }
     {
@@ -233,72 +181,67 @@ impl Machine {
     }
 
     // The central's machine, from an already sent PairingRequest, which had its local features.
+    #[tactic(auto, unfolding(crate::specs::Machine::lesc_switch))]
     pub fn from_lesc_switch(pairing_data: PairingData) -> Machine
         ensures { result ≡ lesc_switch pairing_data }
     {
-        let f = pairing_data.local_features.encode();
-        let preq = [
-            Command::PairingRequest.into_u8(),
-            f[0],
-            f[1],
-            f[2],
-            f[3],
-            f[4],
-            f[5],
-        ];
-        let none = ConfirmPhaseData::none();
+        let [a, b, c, d, e, f] = pairing_data.local_features.encode();
         Machine {
             phase: Phase::WaitingPairingResponse,
-            confirm_data: ConfirmPhaseData { preq, ..none },
+            confirm_data: ConfirmPhaseData {
+                preq: [u8::from(Command::PairingRequest), a, b, c, d, e, f],
+                ..ConfirmPhaseData::none()
+            },
             pairing_data,
         }
     }
 
-    pub fn result(self) -> PairingResult
+    // Another state is entered, with what it holds of the confirm data; the rest is zero.
+    pub fn enters(&mut self, phase: Phase)
+        ensures { self.new ≡ record { phase = phase; confirm_data = kept_by phase self.old.confirm_data; pairing_data = self.old.pairing_data } }
+    {
+        let confirm_data = self.confirm_data.kept_by(phase);
+        self.phase = phase;
+        self.confirm_data = confirm_data;
+    }
+
+    pub fn result(self) -> Option<Result<(), Error>>
         ensures { result ≡ result_of self.phase }
     {
-        let phase = self.phase;
-        phase.result()
+        self.phase.result()
     }
 
     // The level of the bond where the link is encrypted; 0 stands for no encryption.
+    #[tactic(auto, unfolding(crate::specs::Machine::security_level_of))]
     pub fn security_level(self) -> u8
         ensures { result ≡ security_level_of self }
     {
-        let phase = self.phase;
-        let data = self.pairing_data;
-        let bond = data.bond_information;
-        if phase.is_encrypted() {
-            match bond {
-                OptionBond::Some(b) => b.security_level,
-                OptionBond::None => 0,
-            }
-        } else {
-            0
+        match self.pairing_data.bond_information {
+            Some(bond) if self.phase.is_encrypted() => bond.security_level,
+            _ => 0,
         }
     }
 
-    pub fn bond_information(self) -> OptionBond
+    pub fn bond_information(self) -> Option<BondInformation>
         ensures { result ≡ self.pairing_data.bond_information }
     {
-        let data = self.pairing_data;
-        data.bond_information
+        self.pairing_data.bond_information
     }
 }
 
 // An event of the host that is an input.
-#[derive(Clone, Copy)]
+#[derive(Clone, Copy, PartialEq, Eq)]
 pub enum Event {
     LinkEncryptedResult(bool),
     PassKeyConfirm,
     PassKeyCancel,
     PassKeyInput(u32),
-    // the two halves of `local.random`
-    OobDataReceived(Word128),
+    // `local.random`
+    OobDataReceived(u128),
 }
 
 // An input of a step: a command code, any octet, whose payload is lent beside it; or an event.
-#[derive(Clone, Copy)]
+#[derive(Clone, Copy, PartialEq, Eq)]
 pub enum Input {
     Command(u8),
     Event(Event),

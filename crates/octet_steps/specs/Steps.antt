@@ -3,8 +3,8 @@
 -- A machine is its record of 161 octets. What is new here is how numbers stand for roles, inputs and outcomes. A refusal
 -- leaves the record and the list as they were; the two counts become 0 by refusals 1 to 3 and are left by any other.
 -- Assumes nothing.
-use Rattle.std.specs.Prelude.{ℕ, ◌-◌, true, false, cond, List, [], ◌∷◌, ltb, eqb, length, get_or}
-use Rattle.octets.specs.Answer.{Answer, refused, accepted, and_then}
+use Rattle.std.specs.Prelude.{ℕ, ◌-◌, true, false, cond, List, [], ◌∷◌, ltb, eqb, length, get_or, Option, Some, None, Result, Ok, Err}
+use Rattle.octets.specs.Answer.{Answer, refused, accepted, and_then, answer_of}
 use Rattle.octets.specs.Octets.{from_octets, word_of}
 use Rattle.types.specs.Types.{features_of}
 use Rattle.types.specs.declared.types.PairingFeatures.{PairingFeatures}
@@ -17,16 +17,18 @@ use Rattle.machine.specs.declared.Input.TheVariants as input
 use Rattle.machine.specs.declared.Machine.{Machine}
 use Rattle.machine.specs.declared.Role.{Role}
 use Rattle.machine.specs.declared.Role.TheVariants.{Central, Peripheral}
-use Rattle.record.specs.Record.{machine_octets, machine_of}
+use Rattle.record.specs.Record.{machine_octets, machine_of, record_refusal}
+use Rattle.protocol.specs.Refusals.{refusal_number}
 use Rattle.protocol.specs.declared.Outcome.{Outcome}
 use Rattle.protocol.specs.declared.Outcome.TheVariants as outcome
 use Rattle.protocol.specs.Step.{Step, step}
 use Rattle.protocol.specs.FairLink.{fresh_data}
-use Rattle.octet_values.specs.Values.{done, Wrote, writes, address_in}
-use Rattle.octet_steps.specs.declared.TryRole.{TryRole}
-use Rattle.octet_steps.specs.declared.TryRole.TheVariants as try-role
-use Rattle.octet_steps.specs.declared.TryInput.{TryInput}
-use Rattle.octet_steps.specs.declared.TryInput.TheVariants as try-input
+use Rattle.octet_values.specs.Values.{done, Wrote, writes, address_in, error_number, number_of}
+use Rattle.octet_steps.specs.declared.InputError.{InputError}
+use Rattle.octet_steps.specs.declared.InputError.TheVariants as input-error
+use Rattle.octet_steps.specs.declared.Progress.{Progress}
+use Rattle.octet_steps.specs.declared.StepError.{StepError}
+use Rattle.octet_steps.specs.declared.StepError.TheVariants as error
 
 -- ---- how a step came out, beside document 01's refusals 1 to 5 and those of the machine record, 20 to 25
 
@@ -89,7 +91,7 @@ input_of n payload =
 abbrev pub outcome_number : Outcome → ℕ
 outcome_number outcome.Ended = done
 outcome_number outcome.Wants = wants
-outcome_number (outcome.Refused n) = n
+outcome_number (outcome.Refused n) = refusal_number n
 
 -- the number given back, and what stands behind the references
 pub record StepLeft : Type 0 where
@@ -147,12 +149,40 @@ new_on role local peer features out =
     and_then (features_of features) (λ f.
     accepted (machine_octets (fresh_machine r own other f)))))))
 
--- ---- the code's cases
+-- ---- what the code gives
 
-abbrev pub try_role : TryRole → Answer Role
-try_role (try-role.Ok r) = accepted r
-try_role try-role.None = refused no_role
+abbrev pub role_answer : Option Role → Answer Role
+role_answer (Some r) = accepted r
+role_answer None = refused no_role
 
-abbrev pub try_input : TryInput → Answer Input
-try_input (try-input.Ok i) = accepted i
-try_input (try-input.Refused n) = refused n
+abbrev pub input_error_number : InputError → ℕ
+input_error_number input-error.NoInput = no_input
+input_error_number input-error.EventData = bad_event
+
+abbrev pub input_answer : Result Input InputError → Answer Input
+input_answer r = answer_of input_error_number r
+
+-- the number of each error
+abbrev pub step_error_number : StepError → ℕ
+step_error_number (error.Step r) = refusal_number r
+step_error_number (error.Octets e) = error_number e
+step_error_number (error.Record e) = record_refusal e
+step_error_number (error.Input e) = input_error_number e
+step_error_number error.NoRole = no_role
+
+abbrev pub steps_number : {A : Type 0} → Result A StepError → ℕ
+steps_number r = number_of step_error_number r
+
+-- what an error leaves of a count: 0 where the step itself was refused
+abbrev pub count_after : StepError → ℕ → ℕ
+count_after (error.Step r) n = 0
+count_after (error.Octets e) n = n
+count_after (error.Record e) n = n
+count_after (error.Input e) n = n
+count_after error.NoRole n = n
+
+-- what a result of a step leaves behind the references, beside the record and the list
+abbrev pub step_told : Result Progress StepError → List ℕ → List ℕ → ℕ → ℕ → StepLeft
+step_told (Ok p) machine list read written = step_left (cond p.is_ended done wants) machine list p.read p.written
+step_told (Err e) machine list read written =
+    step_left (step_error_number e) machine list (count_after e read) (count_after e written)

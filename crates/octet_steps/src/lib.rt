@@ -1,165 +1,168 @@
 // Steps and fresh machines on octet slices and numbers: a machine is its record of 161 octets. A refusal leaves the record
-// and the list as they were. Of the two counts, a step refused by 1 to 3 sets both to 0; any other refusal leaves them.
+// and the list as they were.
+// Roles and inputs are numbers here, since C gives them so.
 #![tactic(auto)]
 
-ghost use Rattle.std.specs.Prelude.{◌≡◌, length};
-ghost use Rattle.octets.specs.Answer.{accepted};
-ghost use Rattle.record.specs.Record.{record_size, machine_octets};
-ghost use Rattle.protocol.specs.Step.{step};
-ghost use Rattle.octet_values.specs.Values.{wrote, writes};
-ghost use Rattle.octet_steps.specs.Steps.{try_role, role_of, try_input, with_data, link_result_of, pass_key_input_of, oob_data_received_of, input_of};
-ghost use Rattle.octet_steps.specs.Steps.{step_left, stored, step_on, fresh_machine, new_on};
+ghost use Rattle.std.specs.Prelude.{ℕ, ◌≡◌};
+ghost use Rattle.octet_values.specs.Values.{wrote};
+ghost use Rattle.octet_steps.specs.declared.StepError.TheVariants as error;
+ghost use Rattle.octet_steps.specs.Steps.{role_of, with_data, link_result_of, pass_key_input_of, oob_data_received_of, input_of};
+ghost use Rattle.octet_steps.specs.Steps.{step_on, fresh_machine, new_on, role_answer, input_error_number, input_answer, step_error_number, steps_number, step_told};
 
-use bond::Address;
+use bond::{Address, read_flag};
 use machine::{Event, Input, Machine, PairingData, Role};
-use octet_values::{DONE, TryAddress, WRONG_LENGTH, address_in, put};
-use octets::{read_u32, read_word};
-use pairing::{Outcome, step};
-use record::{Reading, read_machine, write_machine};
-use types::{Decoded, PairingFeatures};
+use octet_values::{OctetsError, address_in, put};
+use octets::read_word;
+use pairing::{Outcome, Refusal, step};
+use record::{RecordError, machine_octets, read_machine};
+use types::PairingFeatures;
 
-// How a step came out, beside document 01's refusals 1 to 5 and those of the machine record, 20 to 25.
-// no role has this number
-pub const NO_ROLE: u8 = 26;
+// Why a number and octets are no input, with the number that C gets.
+#[derive(Clone, Copy, PartialEq, Eq)]
+pub enum InputError {
+    // No input has this number
+    NoInput = 27,
+    // An event's data have another length or a forbidden value
+    EventData = 28,
+}
 
-// no input has this number
-pub const NO_INPUT: u8 = 27;
+impl From<InputError> for u8 {
+    ghost from_gives = { λ e number. number ≡ input_error_number e };
 
-// an event's data have another length or a forbidden value
-pub const EVENT_DATA: u8 = 28;
+    fn from(e: InputError) -> u8 {
+        e as u8
+    }
+}
 
-// a step wants an answer: no refusal
-pub const WANTS: u8 = 255;
+// Why a step or a fresh machine is refused, with the number that C gets.
+#[derive(Clone, Copy, PartialEq, Eq)]
+pub enum StepError {
+    // The step itself: 1 to 3
+    Step(Refusal),
+    // Octets that are no features or have another length: 4, 5 and 29
+    Octets(OctetsError),
+    // Octets that are no record of a machine: 20 to 25
+    Record(RecordError),
+    // No input: 27 and 28
+    Input(InputError),
+    // No role has this number: 26
+    NoRole,
+}
 
-// What reading a role gives.
-#[derive(Clone, Copy)]
-enum TryRole {
-    Ok(Role),
-    None,
+impl From<StepError> for u8 {
+    ghost from_gives = { λ e number. number ≡ step_error_number e };
+
+    fn from(e: StepError) -> u8 {
+        match e {
+            StepError::Step(refusal) => u8::from(refusal),
+            StepError::Octets(e) => u8::from(e),
+            StepError::Record(e) => u8::from(e),
+            StepError::Input(e) => u8::from(e),
+            StepError::NoRole => 26,
+        }
+    }
+}
+
+impl From<OctetsError> for StepError {
+    ghost from_gives = { λ octets e. e ≡ error.Octets octets };
+
+    fn from(e: OctetsError) -> StepError {
+        StepError::Octets(e)
+    }
+}
+
+impl From<RecordError> for StepError {
+    ghost from_gives = { λ of_record e. e ≡ error.Record of_record };
+
+    fn from(e: RecordError) -> StepError {
+        StepError::Record(e)
+    }
+}
+
+impl From<InputError> for StepError {
+    ghost from_gives = { λ of_input e. e ≡ error.Input of_input };
+
+    fn from(e: InputError) -> StepError {
+        StepError::Input(e)
+    }
 }
 
 // 0 the terminal, 1 the head.
-fn role_of(role: u8) -> TryRole
-    ensures { try_role result ≡ role_of role }
+#[tactic(auto, unfolding(crate::specs::Steps::role_of))]
+fn role_of(role: u8) -> Option<Role>
+    ensures { role_answer result ≡ role_of role }
 {
     match role {
-        0 => TryRole::Ok(Role::Central),
-        1 => TryRole::Ok(Role::Peripheral),
-        _ => TryRole::None,
+        0 => Some(Role::Central),
+        1 => Some(Role::Peripheral),
+        _ => None,
     }
 }
 
-// What reading an input gives.
-#[derive(Clone, Copy)]
-enum TryInput {
-    Ok(Input),
-    Refused(u8),
-}
-
-// An event whose data have the right length.
-fn with_data(payload: &[u8], size: usize, event: Event) -> TryInput
-    ensures { try_input result ≡ with_data payload.now size event }
+// An event without data.
+fn without_data(payload: &[u8], event: Event) -> Result<Input, InputError>
+    ensures { input_answer result ≡ with_data payload.now 0 event }
 {
-    if payload.len() == size {
-        return TryInput::Ok(Input::Event(event));
+    if !payload.is_empty() {
+        return Err(InputError::EventData);
     }
-    TryInput::Refused(EVENT_DATA)
+    Ok(Input::Event(event))
 }
 
 // One octet, 0 or 1.
-fn link_result(payload: &[u8]) -> TryInput
-    ensures { try_input result ≡ link_result_of payload.now }
+fn link_result(payload: &[u8]) -> Result<Input, InputError>
+    ensures { input_answer result ≡ link_result_of payload.now }
 {
-    if payload.len() == 1 {
-        match payload[0] {
-            0 => return TryInput::Ok(Input::Event(Event::LinkEncryptedResult(false))),
-            1 => return TryInput::Ok(Input::Event(Event::LinkEncryptedResult(true))),
-            _ => return TryInput::Refused(EVENT_DATA),
-        }
-    }
-    TryInput::Refused(EVENT_DATA)
+    let [octet] = <[u8; 1]>::try_from(payload).map_err(|_| InputError::EventData)?;
+    let is_encrypted = read_flag(octet).ok_or(InputError::EventData)?;
+    Ok(Input::Event(Event::LinkEncryptedResult(is_encrypted)))
 }
 
 // Four octets.
-fn pass_key_input(payload: &[u8]) -> TryInput
-    ensures { try_input result ≡ pass_key_input_of payload.now }
+fn pass_key_input(payload: &[u8]) -> Result<Input, InputError>
+    ensures { input_answer result ≡ pass_key_input_of payload.now }
 {
-    if payload.len() == 4 {
-        return TryInput::Ok(Input::Event(Event::PassKeyInput(read_u32(payload, 0))));
-    }
-    TryInput::Refused(EVENT_DATA)
+    let octets = <[u8; 4]>::try_from(payload).map_err(|_| InputError::EventData)?;
+    Ok(Input::Event(Event::PassKeyInput(u32::from_le_bytes(octets))))
 }
 
 // Sixteen octets.
-fn oob_data_received(payload: &[u8]) -> TryInput
-    ensures { try_input result ≡ oob_data_received_of payload.now }
+fn oob_data_received(payload: &[u8]) -> Result<Input, InputError>
+    ensures { input_answer result ≡ oob_data_received_of payload.now }
 {
-    if payload.len() == 16 {
-        return TryInput::Ok(Input::Event(Event::OobDataReceived(read_word(payload, 0))));
-    }
-    TryInput::Refused(EVENT_DATA)
+    let octets = <[u8; 16]>::try_from(payload).map_err(|_| InputError::EventData)?;
+    Ok(Input::Event(Event::OobDataReceived(read_word(&octets, 0))))
 }
 
-// A command code, or 0x100 and an event's number: LinkEncryptedResult, PassKeyConfirm, PassKeyCancel, PassKeyInput,
-// OobDataReceived. An event has its data in the payload's place.
-fn input_of(input: u16, payload: &[u8]) -> TryInput
-    ensures { try_input result ≡ input_of input payload.now }
+// A command code, or 0x100 and an event's number. An event has its data in the payload's place.
+#[tactic(auto, unfolding(crate::specs::Steps::input_of))]
+fn input_of(input: u16, payload: &[u8]) -> Result<Input, InputError>
+    ensures { input_answer result ≡ input_of input payload.now }
 {
-    if input < 0x100 {
-        return TryInput::Ok(Input::Command(input as u8));
-    }
-    match input - 0x100 {
-        0 => link_result(payload),
-        1 => with_data(payload, 0, Event::PassKeyConfirm),
-        2 => with_data(payload, 0, Event::PassKeyCancel),
-        3 => pass_key_input(payload),
-        4 => oob_data_received(payload),
-        _ => TryInput::Refused(NO_INPUT),
+    match input {
+        0x000..=0x0FF => Ok(Input::Command(input as u8)),
+        0x100 => link_result(payload),
+        0x101 => without_data(payload, Event::PassKeyConfirm),
+        0x102 => without_data(payload, Event::PassKeyCancel),
+        0x103 => pass_key_input(payload),
+        0x104 => oob_data_received(payload),
+        _ => Err(InputError::NoInput),
     }
 }
 
-// The record of a machine over 161 octets.
-// requires because it has no refusal: the caller has read a record there, or has an array of that length.
-fn store(next: Machine, machine: &mut [u8])
-    requires { length machine.old ≡ record_size }
-    ensures { machine.new ≡ machine_octets next }
-{
-    write_machine(next, machine);
-}
-
-// The step of a machine that was read; its record is written where the step ended.
-// requires because the caller has read the machine of that record.
-fn step_read(
-    role: Role,
-    current: Machine,
-    input: Input,
-    machine: &mut [u8],
-    payload: &[u8],
-    answers: &[u8],
-    list: &mut [u8],
-    read: &mut usize,
-    written: &mut usize,
-) -> u8
-    requires { length machine.old ≡ record_size }
-    ensures { step_left result machine.new list.new read.new written.new ≡ stored machine.old (step role current input payload.now answers.now list.old) }
-{
-    let stepped = step(role, current, input, payload, answers, list);
-    let outcome = stepped.outcome;
-    *read = stepped.read;
-    *written = stepped.written;
-    match outcome {
-        Outcome::Ended => {
-            let next = stepped.machine;
-            store(next, machine);
-            return DONE;
-        }
-        Outcome::Wants => return WANTS,
-        Outcome::Refused(n) => return n,
-    }
+// How far a step came: it ended, or it wants an answer.
+#[derive(Clone, Copy, PartialEq, Eq)]
+pub struct Progress {
+    pub is_ended: bool,
+    // the octets of answers read, and of the list written
+    pub read: usize,
+    pub written: usize,
 }
 
 // One step of the machine whose record is given, of role 0 (terminal) or 1 (head), on an input, the host's answers so
 // far and a call list of at least 164 octets. A step that ended has written the record anew; one that wants has not.
+// The clause is for whatever counts C's caller has behind its references.
+#[tactic(auto, unfolding(crate::specs::Steps::step_on), using(crate::proofs::Reading::read_length, crate::proofs::Counts::refused_counts))]
 pub fn step_machine(
     role: u8,
     machine: &mut [u8],
@@ -167,29 +170,30 @@ pub fn step_machine(
     payload: &[u8],
     answers: &[u8],
     list: &mut [u8],
-    read: &mut usize,
-    written: &mut usize,
-) -> u8
-    ensures { step_left result machine.new list.new read.new written.new ≡ step_on role machine.old input payload.now answers.now list.old read.old written.old }
+) -> Result<Progress, StepError>
+    ensures { (read written : ℕ) → step_told result machine.new list.new read written ≡ step_on role machine.old input payload.now answers.now list.old read written }
 {
-    let TryRole::Ok(end) = role_of(role) else {
-        return NO_ROLE;
+    let role = role_of(role).ok_or(StepError::NoRole)?;
+    let current = read_machine(role, machine)?;
+    let input = input_of(input, payload)?;
+    let stepped = step(role, current, input, payload, answers, list);
+    let is_ended = match stepped.outcome {
+        Outcome::Ended => {
+            machine.copy_from_slice(&machine_octets(stepped.machine));
+            true
+        }
+        Outcome::Wants => false,
+        Outcome::Refused(refusal) => return Err(StepError::Step(refusal)),
     };
-    let found = read_machine(end, machine);
-    let reading = found.reading;
-    if let Reading::Refused(n) = reading {
-        return n;
-    }
-    let current = found.machine;
-    match input_of(input, payload) {
-        TryInput::Ok(i) => step_read(
-            end, current, i, machine, payload, answers, list, read, written,
-        ),
-        TryInput::Refused(n) => n,
-    }
+    Ok(Progress {
+        is_ended,
+        read: stepped.read,
+        written: stepped.written,
+    })
 }
 
 // A machine that begins a pairing with these addresses and features.
+#[tactic(auto, unfolding(machine::specs::Machine::new_data))]
 fn fresh_machine(
     role: Role,
     local_address: Address,
@@ -198,50 +202,33 @@ fn fresh_machine(
 ) -> Machine
     ensures { result ≡ fresh_machine role local_address peer_address local_features }
 {
-    let io = local_features.io_capabilities;
-    let data = PairingData::new(local_address, peer_address, io);
     let pairing_data = PairingData {
         local_features,
-        ..data
+        ..PairingData::new(local_address, peer_address, local_features.io_capabilities)
     };
     match role {
-        Role::Central => return Machine::from_lesc_switch(pairing_data),
-        Role::Peripheral => return Machine::new(pairing_data),
+        Role::Central => Machine::from_lesc_switch(pairing_data),
+        Role::Peripheral => Machine::new(pairing_data),
     }
-}
-
-// The record of a machine over a slice of its length.
-fn put_machine(machine: Machine, out: &mut [u8]) -> u8
-    ensures { wrote result out.new ≡ writes out.old (accepted (machine_octets machine)) }
-{
-    let mut octets = [0u8; 161];
-    store(machine, &mut octets);
-    put(&octets, out)
 }
 
 // Writes the record of a machine that begins a pairing: role 0 the terminal, which has sent a request with these
 // features, 1 the head, which waits for one. Addresses have seven octets, features are read as from a packet.
+#[tactic(auto, unfolding(crate::specs::Steps::new_on))]
 pub fn new_machine(
     role: u8,
     local_address: &[u8],
     peer_address: &[u8],
     features: &[u8],
     machine: &mut [u8],
-) -> u8
-    ensures { wrote result machine.new ≡ new_on role local_address.now peer_address.now features.now machine.old }
+) -> Result<(), StepError>
+    ensures { wrote (steps_number result) machine.new ≡ new_on role local_address.now peer_address.now features.now machine.old }
 {
-    let TryRole::Ok(end) = role_of(role) else {
-        return NO_ROLE;
-    };
-    let TryAddress::Ok(local) = address_in(local_address) else {
-        return WRONG_LENGTH;
-    };
-    let TryAddress::Ok(peer) = address_in(peer_address) else {
-        return WRONG_LENGTH;
-    };
-    match PairingFeatures::decode(features) {
-        Decoded::Features(f) => put_machine(fresh_machine(end, local, peer, f), machine),
-        Decoded::InsufficientSpace => 4,
-        Decoded::InvalidValue => 5,
-    }
+    let role = role_of(role).ok_or(StepError::NoRole)?;
+    let local = address_in(local_address)?;
+    let peer = address_in(peer_address)?;
+    let features = PairingFeatures::decode(features).map_err(OctetsError::from)?;
+    let fresh = fresh_machine(role, local, peer, features);
+    put(&machine_octets(fresh), machine)?;
+    Ok(())
 }

@@ -1,12 +1,12 @@
 -- Believed: the archive's contracts rest on it.
 -- Document 01's operations on octet strings and numbers: what each gives back, and what it leaves behind its references.
 -- A refusal writes nothing. Assumes nothing.
-use Rattle.std.specs.Prelude.{ℕ, cond, List, [], ◌∷◌, eqb, length}
-use Rattle.std.proofs.Math.Option.{Option, none, some}
-use Rattle.octets.specs.Answer.{Answer, refused, accepted, and_then}
+use Rattle.std.specs.Prelude.{ℕ, cond, List, [], ◌∷◌, eqb, length, Option, Some, None, Result, Ok, Err}
+use Rattle.octets.specs.Answer.{Answer, refused, accepted, and_then, answer_of}
 use Rattle.octets.specs.Octets.{octets_of, word_of}
-use Rattle.octets.specs.declared.Word128.{Word128}
 use Rattle.types.specs.Capabilities.{io_of}
+use Rattle.types.specs.declared.codec.Error.{Error}
+use Rattle.types.specs.declared.codec.Error.TheVariants as codec
 use Rattle.types.specs.Types.{oob_of, feature_octets, features_with, features_of}
 use Rattle.crypto.specs.Crypto.{c1_of, s1_of}
 use Rattle.bond.specs.Bond.{bd_addr_octets, address_of, address_type}
@@ -14,10 +14,9 @@ use Rattle.bond.specs.declared.Address.{Address}
 use Rattle.host.specs.Calls.{body_length}
 use Rattle.call_list.specs.CallList.{size_of, count_of, call_at_of}
 use Rattle.call_list.specs.declared.CallRecord.{CallRecord}
-use Rattle.octet_values.specs.declared.TryAddress.{TryAddress}
-use Rattle.octet_values.specs.declared.TryAddress.TheVariants as try-address
-use Rattle.octet_values.specs.declared.TryWord.{TryWord}
-use Rattle.octet_values.specs.declared.TryWord.TheVariants as try-word
+use Rattle.octet_values.specs.declared.Call.{Call}
+use Rattle.octet_values.specs.declared.OctetsError.{OctetsError}
+use Rattle.octet_values.specs.declared.OctetsError.TheVariants as error
 
 -- ---- how an operation came out. 4 to 6 are document 01's refusals
 
@@ -53,7 +52,7 @@ of_length n s = cond (eqb (length s) n) (accepted s) (refused wrong_length)
 unfoldable pub address_in : List ℕ → Answer Address
 address_in s = and_then (of_length 7 s) (λ l. accepted (address_of l))
 
-unfoldable pub word_in : List ℕ → Answer Word128
+unfoldable pub word_in : List ℕ → Answer ℕ
 word_in s = and_then (of_length 16 s) (λ l. accepted (word_of l))
 
 -- ---- features
@@ -120,18 +119,39 @@ call_left n kind body size = record { number = n; kind = kind; body = body; size
 -- kind, place and size of the body of the call at an index, where there is one
 abbrev pub call_found : ℕ → ℕ → ℕ → Answer (Option CallRecord) → CallLeft
 call_found kind body size (refused n) = call_left n kind body size
-call_found kind body size (accepted none) = call_left no_call kind body size
-call_found kind body size (accepted (some c)) = call_left done c.kind c.body (size_of (body_length c.kind))
+call_found kind body size (accepted None) = call_left no_call kind body size
+call_found kind body size (accepted (Some c)) = call_left done c.kind c.body (size_of (body_length c.kind))
 
 unfoldable pub call_on : List ℕ → ℕ → ℕ → ℕ → ℕ → CallLeft
 call_on list index kind body size = call_found kind body size (call_at_of list index)
 
--- ---- the code's cases
+-- ---- what the code gives
 
-abbrev pub try_address : TryAddress → Answer Address
-try_address (try-address.Ok a) = accepted a
-try_address try-address.WrongLength = refused wrong_length
+-- the number of each error
+abbrev pub error_number : OctetsError → ℕ
+error_number error.InsufficientSpace = 4
+error_number error.InvalidValue = 5
+error_number error.InvalidList = 6
+error_number error.WrongLength = wrong_length
+error_number error.NoCall = no_call
 
-abbrev pub try_word : TryWord → Answer Word128
-try_word (try-word.Ok w) = accepted w
-try_word try-word.WrongLength = refused wrong_length
+-- the error that a failed reading of features becomes
+abbrev pub codec_error : Error → OctetsError
+codec_error codec.InsufficientSpace = error.InsufficientSpace
+codec_error codec.InvalidValue = error.InvalidValue
+
+-- the number by which a result is told: 0, or that of its error
+abbrev pub number_of : {A E : Type 0} → (E → ℕ) → Result A E → ℕ
+number_of number (Ok a) = done
+number_of number (Err e) = number e
+
+abbrev pub octets_number : {A : Type 0} → Result A OctetsError → ℕ
+octets_number r = number_of error_number r
+
+abbrev pub octets_answer : {A : Type 0} → Result A OctetsError → Answer A
+octets_answer r = answer_of error_number r
+
+-- what a call that was given leaves behind the references; a refusal leaves them
+abbrev pub call_given : ℕ → ℕ → ℕ → Answer Call → CallLeft
+call_given kind body size (refused n) = call_left n kind body size
+call_given kind body size (accepted c) = call_left done c.kind c.body c.size

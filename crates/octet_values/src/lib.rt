@@ -2,72 +2,121 @@
 // reading a call list. Octet strings run least significant octet first, as on the air. A refusal writes nothing.
 #![tactic(auto)]
 
-ghost use Rattle.std.specs.Prelude.{◌≡◌, length};
+ghost use Rattle.std.specs.Prelude.{ℕ, ◌≡◌};
 ghost use Rattle.octets.specs.Answer.{accepted};
-ghost use Rattle.host.specs.Calls.{body_length};
-ghost use Rattle.call_list.specs.CallList.{size_of};
-ghost use Rattle.octet_values.specs.Values.{wrote, writes, try_address, address_in, read_features_on, write_features_on, try_word, word_in, c1_on, s1_on};
-ghost use Rattle.octet_values.specs.Values.{counted, count_on, call_left, call_on};
+ghost use Rattle.call_list.specs.CallList.{count_of};
+ghost use Rattle.octet_values.specs.declared.OctetsError.TheVariants.{InvalidValue, InvalidList};
+ghost use Rattle.octet_values.specs.Values.{of_length, address_in, word_in, wrote, writes, read_features_on, write_features_on, c1_on, s1_on};
+ghost use Rattle.octet_values.specs.Values.{call_on, error_number, codec_error, octets_number, octets_answer, call_given};
 
 use bond::{Address, read_address};
-use call_list::{CallAt, CallCount};
+use call_list::InvalidList;
 use crypto::{Nonce, c1, s1};
-use host::call::{BodyLength, body_length};
-use octets::{Word128, read_word, write};
+use host::call::body_length;
+use octets::{read_word, word_to_octets};
 use types::{
-    AuthReq, Decoded, IoCapabilities, KeyDistributionFlags, PairingFeatures, TryIoCapabilities,
-    TryUseOutOfBand, UseOutOfBand,
+    AuthReq, InvalidValue, IoCapabilities, KeyDistributionFlags, PairingFeatures, UseOutOfBand,
+    codec,
 };
 
-// How an operation came out. 4 to 6 are document 01's refusals.
-pub const DONE: u8 = 0;
-
-// a slice has another length
-pub const WRONG_LENGTH: u8 = 29;
-
-// the list has no call at this index
-pub const NO_CALL: u8 = 30;
-
-// Writes octets over a slice of their length.
-pub fn put(octets: &[u8], out: &mut [u8]) -> u8
-    ensures { wrote result out.new ≡ writes out.old (accepted octets.now) }
-{
-    if out.len() == octets.len() {
-        write(out, 0, octets);
-        return DONE;
-    }
-    WRONG_LENGTH
+// Why an operation is refused, with the number that C gets. 4 to 6 are document 01's.
+#[derive(Clone, Copy, PartialEq, Eq)]
+pub enum OctetsError {
+    // There are fewer octets than features have
+    InsufficientSpace = 4,
+    // An octet stands for no value of features
+    InvalidValue = 5,
+    // A call on the list has an unknown kind or a cut body
+    InvalidList = 6,
+    // A slice has another length
+    WrongLength = 29,
+    // The list has no call at this index
+    NoCall = 30,
 }
 
-// What reading an address gives.
-#[derive(Clone, Copy)]
-pub enum TryAddress {
-    Ok(Address),
-    WrongLength,
+impl From<OctetsError> for u8 {
+    ghost from_gives = { λ e number. number ≡ error_number e };
+
+    fn from(e: OctetsError) -> u8 {
+        e as u8
+    }
+}
+
+impl From<codec::Error> for OctetsError {
+    ghost from_gives = { λ decoding e. e ≡ codec_error decoding };
+
+    fn from(e: codec::Error) -> OctetsError {
+        match e {
+            codec::Error::InsufficientSpace => OctetsError::InsufficientSpace,
+            codec::Error::InvalidValue => OctetsError::InvalidValue,
+        }
+    }
+}
+
+impl From<InvalidValue> for OctetsError {
+    ghost from_gives = { λ _ e. e ≡ InvalidValue };
+
+    fn from(_e: InvalidValue) -> OctetsError {
+        OctetsError::InvalidValue
+    }
+}
+
+impl From<InvalidList> for OctetsError {
+    ghost from_gives = { λ _ e. e ≡ InvalidList };
+
+    fn from(_e: InvalidList) -> OctetsError {
+        OctetsError::InvalidList
+    }
+}
+
+// Writes octets over a slice of their length.
+pub fn put(octets: &[u8], out: &mut [u8]) -> Result<(), OctetsError>
+    ensures { wrote (octets_number result) out.new ≡ writes out.old (accepted octets.now) }
+{
+    if out.len() != octets.len() {
+        return Err(OctetsError::WrongLength);
+    }
+    out.copy_from_slice(octets);
+    Ok(())
+}
+
+// N octets, and no more.
+#[tactic(auto, unfolding(crate::specs::Values::of_length))]
+fn octets_in<const N: usize>(s: &[u8]) -> Result<[u8; N], OctetsError>
+    ensures { octets_answer result ≡ of_length N s.now }
+{
+    <[u8; N]>::try_from(s).map_err(|_| OctetsError::WrongLength)
 }
 
 // Seven octets: the kind and the address.
-pub fn address_in(s: &[u8]) -> TryAddress
-    ensures { try_address result ≡ address_in s.now }
+#[tactic(auto, unfolding(crate::specs::Values::address_in))]
+pub fn address_in(s: &[u8]) -> Result<Address, OctetsError>
+    ensures { octets_answer result ≡ address_in s.now }
 {
-    if s.len() == 7 {
-        return TryAddress::Ok(read_address(s, 0));
-    }
-    TryAddress::WrongLength
+    let octets = octets_in::<7>(s)?;
+    Ok(read_address(&octets, 0))
+}
+
+// Sixteen octets.
+#[tactic(auto, unfolding(crate::specs::Values::word_in))]
+fn word_in(s: &[u8]) -> Result<u128, OctetsError>
+    ensures { octets_answer result ≡ word_in s.now }
+{
+    let octets = octets_in::<16>(s)?;
+    Ok(read_word(&octets, 0))
 }
 
 // Reads pairing features: of a packet's payload, the six fields, an octet each.
-pub fn read_features(payload: &[u8], fields: &mut [u8]) -> u8
-    ensures { wrote result fields.new ≡ read_features_on payload.now fields.old }
+#[tactic(auto, unfolding(crate::specs::Values::read_features_on))]
+pub fn read_features(payload: &[u8], fields: &mut [u8]) -> Result<(), OctetsError>
+    ensures { wrote (octets_number result) fields.new ≡ read_features_on payload.now fields.old }
 {
-    match PairingFeatures::decode(payload) {
-        Decoded::Features(f) => put(&f.encode(), fields),
-        Decoded::InsufficientSpace => 4,
-        Decoded::InvalidValue => 5,
-    }
+    let features = PairingFeatures::decode(payload)?;
+    put(&features.encode(), fields)
 }
 
 // Writes pairing features: of six fields, a packet's payload.
+#[tactic(auto, unfolding(crate::specs::Values::write_features_on))]
 pub fn write_features(
     io: u8,
     oob: u8,
@@ -76,18 +125,12 @@ pub fn write_features(
     initiator_keys: u8,
     responder_keys: u8,
     payload: &mut [u8],
-) -> u8
-    ensures { wrote result payload.new ≡ write_features_on io oob auth_req key_size initiator_keys responder_keys payload.old }
+) -> Result<(), OctetsError>
+    ensures { wrote (octets_number result) payload.new ≡ write_features_on io oob auth_req key_size initiator_keys responder_keys payload.old }
 {
-    let TryIoCapabilities::Ok(io_capabilities) = IoCapabilities::try_from(io) else {
-        return 5;
-    };
-    let TryUseOutOfBand::Ok(use_oob) = UseOutOfBand::try_from(oob) else {
-        return 5;
-    };
     let features = PairingFeatures {
-        io_capabilities,
-        use_oob,
+        io_capabilities: IoCapabilities::try_from(io)?,
+        use_oob: UseOutOfBand::try_from(oob)?,
         security_properties: AuthReq(auth_req),
         maximum_encryption_key_size: key_size,
         initiator_key_distribution: KeyDistributionFlags(initiator_keys),
@@ -96,33 +139,8 @@ pub fn write_features(
     put(&features.encode(), payload)
 }
 
-// What reading a word gives.
-#[derive(Clone, Copy)]
-enum TryWord {
-    Ok(Word128),
-    WrongLength,
-}
-
-// Sixteen octets.
-fn word_in(s: &[u8]) -> TryWord
-    ensures { try_word result ≡ word_in s.now }
-{
-    if s.len() == 16 {
-        return TryWord::Ok(read_word(s, 0));
-    }
-    TryWord::WrongLength
-}
-
-// Seven octets.
-// requires because it has no refusal: the caller has tested the slice's length.
-fn read_7(s: &[u8]) -> [u8; 7]
-    requires { length s.now ≡ 7 }
-    ensures { result ≡ s.now }
-{
-    [s[0], s[1], s[2], s[3], s[4], s[5], s[6]]
-}
-
 // The confirm value c1: k and r have 16 octets, preq and pres 7 (with their codes), the addresses 7 (kind and address).
+#[tactic(auto, unfolding(crate::specs::Values::c1_on))]
 pub fn confirm_value(
     k: &[u8],
     r: &[u8],
@@ -131,92 +149,70 @@ pub fn confirm_value(
     initiator: &[u8],
     responder: &[u8],
     confirm: &mut [u8],
-) -> u8
-    ensures { wrote result confirm.new ≡ c1_on k.now r.now preq.now pres.now initiator.now responder.now confirm.old }
+) -> Result<(), OctetsError>
+    ensures { wrote (octets_number result) confirm.new ≡ c1_on k.now r.now preq.now pres.now initiator.now responder.now confirm.old }
 {
-    let TryWord::Ok(key) = word_in(k) else {
-        return WRONG_LENGTH;
-    };
-    let TryWord::Ok(nonce) = word_in(r) else {
-        return WRONG_LENGTH;
-    };
-    if preq.len() != 7 {
-        return WRONG_LENGTH;
-    }
-    if pres.len() != 7 {
-        return WRONG_LENGTH;
-    }
-    let TryAddress::Ok(i) = address_in(initiator) else {
-        return WRONG_LENGTH;
-    };
-    let TryAddress::Ok(a) = address_in(responder) else {
-        return WRONG_LENGTH;
-    };
+    let key = word_in(k)?;
+    let nonce = word_in(r)?;
+    let preq = octets_in(preq)?;
+    let pres = octets_in(pres)?;
+    let initiator = address_in(initiator)?;
+    let responder = address_in(responder)?;
     let value = c1(
         key,
         Nonce(nonce),
-        read_7(preq),
-        read_7(pres),
-        i.addr_type(),
-        i.addr.into_inner(),
-        a.addr_type(),
-        a.addr.into_inner(),
+        preq,
+        pres,
+        initiator.addr_type(),
+        initiator.addr.into_inner(),
+        responder.addr_type(),
+        responder.addr.into_inner(),
     );
-    put(&value.0.to_le_bytes(), confirm)
+    put(&word_to_octets(value.0), confirm)
 }
 
 // The short-term key s1: k, srand and mrand have 16 octets.
-pub fn short_term_key(k: &[u8], srand: &[u8], mrand: &[u8], key: &mut [u8]) -> u8
-    ensures { wrote result key.new ≡ s1_on k.now srand.now mrand.now key.old }
+#[tactic(auto, unfolding(crate::specs::Values::s1_on))]
+pub fn short_term_key(
+    k: &[u8],
+    srand: &[u8],
+    mrand: &[u8],
+    key: &mut [u8],
+) -> Result<(), OctetsError>
+    ensures { wrote (octets_number result) key.new ≡ s1_on k.now srand.now mrand.now key.old }
 {
-    let TryWord::Ok(tk) = word_in(k) else {
-        return WRONG_LENGTH;
-    };
-    let TryWord::Ok(s) = word_in(srand) else {
-        return WRONG_LENGTH;
-    };
-    let TryWord::Ok(m) = word_in(mrand) else {
-        return WRONG_LENGTH;
-    };
+    let tk = word_in(k)?;
+    let s = word_in(srand)?;
+    let m = word_in(mrand)?;
     let value = s1(tk, Nonce(s), Nonce(m));
-    put(&value.to_le_bytes(), key)
+    put(&word_to_octets(value.0), key)
 }
 
 // The number of calls of a list.
-pub fn count_calls(list: &[u8], count: &mut usize) -> u8
-    ensures { counted result count.new ≡ count_on list.now count.old }
+pub fn count_calls(list: &[u8]) -> Result<usize, OctetsError>
+    ensures { octets_answer result ≡ count_of list.now }
 {
-    match call_list::count_calls(list) {
-        CallCount::Calls(n) => {
-            *count = n;
-            DONE
-        }
-        CallCount::Refused(n) => n,
-    }
+    let count = call_list::count_calls(list)?;
+    Ok(count)
 }
 
-// The octets of a body.
-fn body_size(kind: u8) -> usize
-    ensures { result ≡ size_of (body_length kind) }
-{
-    match body_length(kind) {
-        BodyLength::Octets(n) => n,
-        BodyLength::Unknown => 0,
-    }
+// A call of a list: its kind, and the place and the size of its body.
+#[derive(Clone, Copy, PartialEq, Eq)]
+pub struct Call {
+    pub kind: u8,
+    pub body: usize,
+    pub size: usize,
 }
 
-// The call at an index of a list, counted from 0: its kind, and the place and the size of its body.
-pub fn call_at(list: &[u8], index: usize, kind: &mut u8, body: &mut usize, size: &mut usize) -> u8
-    ensures { call_left result kind.new body.new size.new ≡ call_on list.now index kind.old body.old size.old }
+// The call at an index of a list, counted from 0. The clause is for whatever stands behind the references of C's caller.
+#[tactic(auto, unfolding(crate::specs::Values::call_on))]
+pub fn call_at(list: &[u8], index: usize) -> Result<Call, OctetsError>
+    ensures { (kind body size : ℕ) → call_given kind body size (octets_answer result) ≡ call_on list.now index kind body size }
 {
-    match call_list::call_at(list, index) {
-        CallAt::Call(call) => {
-            *kind = call.kind;
-            *body = call.body;
-            *size = body_size(call.kind);
-            DONE
-        }
-        CallAt::None => NO_CALL,
-        CallAt::Refused(n) => n,
-    }
+    let call = call_list::call_at(list, index)?.ok_or(OctetsError::NoCall)?;
+    Ok(Call {
+        kind: call.kind,
+        body: call.body,
+        size: body_length(call.kind).unwrap_or(0),
+    })
 }

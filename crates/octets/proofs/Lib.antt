@@ -1,5 +1,5 @@
 pub mod Lists
 pub mod Parts
+pub mod Bytes
 pub mod Octets
-pub mod Filled
 pub mod Table

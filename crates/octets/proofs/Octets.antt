@@ -1,17 +1,16 @@
 -- Laws of numbers and their octets, over the count. Assumes nothing.
-use mathlib.Core.Path.{◌≡◌, refl, sym, ap, ap₂, ◌∙◌}
-use mathlib.Core.Bool.{true, and-eq-true_iff}
+use mathlib.Core.Path.{◌≡◌, refl, sym, ap, ◌∙◌}
+use mathlib.Core.Bool.{true}
 use mathlib.Core.List.{List, [], ◌∷◌, ◌++◌, reverse, reverse_aux}
 use Prim.Native.Nat.{ℕ, zero, suc, ◌+◌, ◌*◌, ◌/◌, ◌%◌, ◌^◌, ◌≤◌, ◌<◌}
 use native.Mathlib.Nat.{pow-suc, mod-lt, div-lt_iff_lt-mul}
 use native.Mathlib.Omega.{arith}
-use borrow.Author.Tests.{eqb-true, eq-eqb}
+use borrow.Author.Tests.{eq-eqb}
 use lib.Dec.{lit<, eqb}
-use lib.ListN.{length, get_or, take, drop, replicate, length-drop}
-use lib.Seq.{take-add, take_all, length-take-le}
+use lib.ListN.{length, get_or, take, drop, replicate}
+use lib.Seq.{take_all}
 use lib.Pow.{mod-pow-add}
-use Rattle.octets.specs.declared.Word128.{Word128}
-use Rattle.octets.specs.Octets.{from_octets, to_octets, octets_of, word_of, same_word}
+use Rattle.octets.specs.Octets.{from_octets, to_octets, octets_of, word_of}
 
 -- ---- a list of octets: every element is below 256
 abbrev pub Octets : List ℕ → Type 0
@@ -102,51 +101,31 @@ from_lt (suc n) (x ∷ l) o =
     rw pow-suc (omega arith)
 
 -- ---- a word to octets, and back
-pub word_octets_lem : (w : Word128) → Octets (octets_of w)
+pub word_octets_lem : (w : ℕ) → Octets (octets_of w)
 unfolding octets_of
-word_octets_lem w = octets_append (to_octets 8 w.low) (to_octets 8 w.high) (octets_to 8 w.low) (octets_to 8 w.high)
+word_octets_lem w = octets_to 16 w
 
-pub word_length : (w : Word128) → length (octets_of w) ≡ 16
+pub word_length : (w : ℕ) → length (octets_of w) ≡ 16
 unfolding octets_of
 word_length w = refl
 
--- a word is its octets: each half has no more than 64 bits
-pub word_back : (w : Word128) → w.low < 2 ^ 64 → w.high < 2 ^ 64 → word_of (octets_of w) ≡ w
+-- a word is its octets
+pub word_back : (w : ℕ) → w < 2 ^ 128 → word_of (octets_of w) ≡ w
 unfolding octets_of word_of
-word_back w l h = rw (from_to 8 w.low l, from_to 8 w.high h)
+word_back w h = from_to 16 w h
 
 -- and 16 octets are those of their word
-half_back : (l : List ℕ) → Octets l → 8 ≤ length l → to_octets 8 (from_octets (take 8 l)) ≡ take 8 l
-half_back l o h = ap (λ (n : ℕ). to_octets n (from_octets (take 8 l))) (sym (length-take-le 8 l h)) ∙ to_from (take 8 l) (octets_take 8 l o)
-
 pub octets_back : (l : List ℕ) → Octets l → length l ≡ 16 → octets_of (word_of l) ≡ l
 unfolding octets_of word_of
 octets_back l o h =
-    let high : 8 ≤ length (drop 8 l) = rw length-drop (omega arith) in
-    ap₂ (λ (x y : List ℕ). x ++ y) (half_back l o (omega arith)) (half_back (drop 8 l) (octets_drop 8 l o) high)
-    ∙ sym (take-add 8 8 l) ∙ take_all 16 l (omega arith)
+    ap (λ (m : List ℕ). to_octets 16 (from_octets m)) (take_all 16 l (omega arith))
+    ∙ ap (λ (n : ℕ). to_octets n (from_octets l)) (sym h) ∙ to_from l o
 
--- octets that were read as a word have 64 bits to each half
-pub word_low : (l : List ℕ) → Octets l → (word_of l).low < 2 ^ 64
+-- octets that were read as a word have 128 bits
+pub word_lt : (l : List ℕ) → Octets l → word_of l < 2 ^ 128
 unfolding word_of
-word_low l o = from_lt 8 l o
+word_lt l o = from_lt 16 l o
 
-pub word_high : (l : List ℕ) → Octets l → (word_of l).high < 2 ^ 64
-unfolding word_of
-word_high l o = from_lt 8 (drop 8 l) (octets_drop 8 l o)
-
--- ---- words are compared by their halves
-pub same_word_lem : (a b : Word128) → same_word a b ≡ true → a ≡ b
-unfolding same_word
-same_word_lem a b e =
-    let h = (and-eq-true_iff (eqb a.low b.low) (eqb a.high b.high)).0 e in
-    let l : a.low ≡ b.low = eqb-true a.low b.low h.0 in
-    let u : a.high ≡ b.high = eqb-true a.high b.high h.1 in
-    halves a.low a.high b.low b.high l u
-  where
-    halves : (al ah bl bh : ℕ) → al ≡ bl → ah ≡ bh → ◌≡◌ {A = Word128} (record { low = al; high = ah }) (record { low = bl; high = bh })
-    halves al ah bl bh p q = cc
-
-pub same_refl : (a : Word128) → same_word a a ≡ true
-unfolding same_word
-same_refl a = rw (eq-eqb a.low a.low refl, eq-eqb a.high a.high refl)
+-- a number is equal to itself
+pub same_number : (n : ℕ) → eqb n n ≡ true
+same_number n = eq-eqb n n refl

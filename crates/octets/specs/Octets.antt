@@ -1,9 +1,7 @@
 -- Believed: the archive's contracts, demand 3 and the worked cases rest on it.
 -- Numbers as octet strings. An octet string runs least significant octet first, as on the air, unless a name says
 -- otherwise (BE: most significant octet first). Assumes nothing.
-use Rattle.std.specs.Prelude.{◌≡◌, ℕ, zero, suc, ◌+◌, ◌*◌, ◌/◌, ◌%◌, Bool, cond, ◌&&◌, List, [], ◌∷◌, ◌++◌, reverse, leb, eqb, length, take, drop}
-use Rattle.std.specs.Int.Bits.{bit_xor}
-use Rattle.octets.specs.declared.Word128.{Word128}
+use Rattle.std.specs.Prelude.{◌≡◌, ℕ, zero, suc, ◌+◌, ◌*◌, ◌/◌, ◌%◌, Bool, cond, List, [], ◌∷◌, ◌++◌, reverse, leb, length, take, drop}
 
 -- ---- numbers of any width
 
@@ -17,28 +15,22 @@ abbrev pub to_octets : ℕ → ℕ → List ℕ
 to_octets zero x = []
 to_octets (suc n) x = x % 256 ∷ to_octets n (x / 256)
 
--- ---- 128 bits, as two halves of 64
+-- ---- numbers of 128 bits
 
 -- the 16 octets of a word
-unfoldable pub octets_of : Word128 → List ℕ
-octets_of w = to_octets 8 w.low ++ to_octets 8 w.high
+unfoldable pub octets_of : ℕ → List ℕ
+octets_of w = to_octets 16 w
 
 -- the word of 16 octets
-unfoldable pub word_of : List ℕ → Word128
-word_of l = record { low = from_octets (take 8 l); high = from_octets (take 8 (drop 8 l)) }
+unfoldable pub word_of : List ℕ → ℕ
+word_of l = from_octets (take 16 l)
 
 -- the same, most significant octet first
-unfoldable pub octets_be : Word128 → List ℕ
+unfoldable pub octets_be : ℕ → List ℕ
 octets_be w = reverse (octets_of w)
 
-unfoldable pub word_be : List ℕ → Word128
+unfoldable pub word_be : List ℕ → ℕ
 word_be l = word_of (reverse l)
-
-unfoldable pub xor_of : Word128 → Word128 → Word128
-xor_of a b = record { low = bit_xor a.low b.low; high = bit_xor a.high b.high }
-
-unfoldable pub same_word : Word128 → Word128 → Bool
-same_word a b = eqb a.low b.low && eqb a.high b.high
 
 -- ---- a string laid over a part of a longer one
 

@@ -15,13 +15,9 @@ use Rattle.protocol.specs.Program.{ret, ask, bind}
 use Rattle.protocol.specs.Ops.{Program, Reply, reply_sort, reply_found, taken, answer_size}
 use Rattle.protocol.proofs.Replies.{reads, Says, body_says}
 use Rattle.ops.specs.Run.{Ran, ended, stopped, and_then, on_taken, run, answer_to}
-use Rattle.ops.specs.Asked.{on_halt, ran_delivered, ran_found, attempted_of}
+use Rattle.ops.specs.Asked.{on_halt}
 use Rattle.ops.specs.declared.Halt.{Halt}
 use Rattle.ops.specs.declared.Halt.TheVariants as halt
-use Rattle.ops.specs.declared.Delivered.{Delivered}
-use Rattle.ops.specs.declared.Delivered.TheVariants as verdict
-use Rattle.ops.specs.declared.Attempted.{Attempted}
-use Rattle.ops.specs.declared.Attempted.TheVariants as attempt
 
 -- what follows what follows
 pub and_and :
@@ -48,18 +44,6 @@ pub and_halt :
     and_then (on_halt t f h) k ≡ on_halt t (λ e u. and_then (f e u) k) h
 and_halt t f (halt.Failed e) k = refl
 and_halt t f (halt.Stop e) k = refl
-
-abbrev pub on_attempted : {A : Type 0} → Trace → (Trace → Ran A) → Attempted → Ran A
-on_attempted t k attempt.Yes = k t
-on_attempted t k (attempt.Stop e) = stopped e t
-
--- where a failure does not matter
-pub and_attempt :
-    {A : Type 0} (t : Trace) (a : Delivered) (k : Trace → Ran A) →
-    and_then (ran_delivered t a) (λ x u. k u) ≡ on_attempted t k (attempted_of a)
-and_attempt t verdict.Yes k = refl
-and_attempt t (verdict.Not (halt.Failed e)) k = refl
-and_attempt t (verdict.Not (halt.Stop e)) k = refl
 
 -- an answer that was found lies within the answers
 pub answer_within :
@@ -93,7 +77,3 @@ flag_within s at kind e = body_within s at kind 1 (found_body (body_at s at kind
 pub none_taken : {X : Type 0} (t : Trace) (n : ℕ) (e : Stop) → on_taken {X = X} t (taken n (stop_found e)) ≡ stopped e t
 none_taken t n Wanted = refl
 none_taken t n Refused = refl
-
-pub ran_stop : {A : Type 0} (t : Trace) (e : Stop) → ran_found {A = A} t (stop_found e) ≡ stopped e t
-ran_stop t Wanted = refl
-ran_stop t Refused = refl

@@ -1,511 +1,261 @@
-// The host in a handler, in the place of the Rust's `ops` and `rng`: one function for each function of PairingOps and
-// for each draw. Each lists its call, reads the answer where the trace has read to, and moves behind it.
+// The host in a handler, in the place of the Rust's `ops` and `rng`: one method for each function of PairingOps and for
+// each draw. Each lists its call, reads the answer where the trace has read to, and moves behind it.
 #![tactic(auto)]
 
-ghost use Rattle.std.specs.Prelude.{◌+◌, ◌≤◌, ◌≡◌, length};
-ghost use Rattle.host.specs.Calls.{push_of, kind_of, question_kind};
+ghost use Rattle.std.specs.Prelude.{◌≡◌};
+ghost use Rattle.host.specs.Calls.{no_trace, push_of};
 ghost use Rattle.host.specs.declared.call.Question.TheVariants as question;
 ghost use Rattle.host.specs.declared.call.Draw.TheVariants as draw;
 ghost use Rattle.host.specs.declared.call.Call.TheVariants as call;
-ghost use Rattle.answer.specs.Answers.{flag_at};
-ghost use Rattle.protocol.specs.Ops.{taken, delivery_at};
-ghost use Rattle.ops.specs.Run.{read_to, on_taken, answer_to};
-ghost use Rattle.ops.specs.Asked.{ran_sent, ran_flag, ran_irk, ran_nonce, ran_pass_key, ran_ltk, ran_ediv, ran_rand, ran_address, ran_bond, ran_option_bond};
-ghost use Rattle.ops.specs.Asked.{halt_of, address_halt, bond_halt, option_bond_halt, attempted_of, attempt_stop};
+ghost use Rattle.ops.specs.declared.Halt.TheVariants as halt;
+ghost use Rattle.ops.specs.Run.{answer_to};
+ghost use Rattle.ops.specs.Asked.{ran_answer, ran_result, ran_delivery, told, asked_flag};
 
 use answer::{
-    AddressAnswer, AddressResult, BondResult, BondedEncryptionAnswer, EdivAnswer, EncryptionAnswer,
-    FlagAnswer, IrkAnswer, LongTermKeyAnswer, NonceAnswer, OptionBondResult, PassKeyAnswer,
-    RandAnswer, Stop, VerdictAnswer, read_bonded_encryption, read_ediv, read_encryption,
-    read_identity_address, read_irk, read_ltk, read_nonce, read_passkey, read_rand, read_verdict,
-    read_yes_no,
+    Stop, read_bonded_encryption, read_ediv, read_encryption, read_identity_address, read_irk,
+    read_ltk, read_nonce, read_passkey, read_rand, read_verdict, read_yes_no,
 };
-use bond::{Address, BondInformation, Error, OptionBond};
-use crypto::LongTermKey;
+use bond::{Address, BondInformation, Error};
+use crypto::{IdentityResolvingKey, LongTermKey, Nonce};
 use host::{Call, ConnectionEvent, Draw, Packet, Question, Trace};
+use types::PassKey;
 
 // Why a handler goes no further: the Rust's Err of `?`, or no answer.
-#[derive(Clone, Copy)]
+#[derive(Clone, Copy, PartialEq, Eq)]
 pub enum Halt {
     Failed(Error),
     Stop(Stop),
 }
 
-// What became of a packet, an event or an update of the bond.
-#[derive(Clone, Copy)]
-pub enum Delivered {
-    Yes,
-    Not(Halt),
+impl From<Error> for Halt {
+    ghost from_gives = { λ error h. h ≡ halt.Failed error };
+
+    fn from(error: Error) -> Halt {
+        Halt::Failed(error)
+    }
 }
 
-#[derive(Clone, Copy)]
-pub struct Sent {
+impl From<Stop> for Halt {
+    ghost from_gives = { λ stop h. h ≡ halt.Stop stop };
+
+    fn from(stop: Stop) -> Halt {
+        Halt::Stop(stop)
+    }
+}
+
+// What a step has done so far, and the answers that it was given.
+pub struct Ops<'a> {
     pub trace: Trace,
-    pub answer: Delivered,
+    pub answers: &'a [u8],
 }
 
-// Whether a verdict came at all, where its value does not matter.
-#[derive(Clone, Copy)]
-pub enum Attempted {
-    Yes,
-    Stop(Stop),
-}
-
-#[derive(Clone, Copy)]
-pub struct AskedFlag {
-    pub trace: Trace,
-    pub answer: FlagAnswer,
-}
-
-#[derive(Clone, Copy)]
-pub struct AskedIrk {
-    pub trace: Trace,
-    pub answer: IrkAnswer,
-}
-
-#[derive(Clone, Copy)]
-pub struct AskedNonce {
-    pub trace: Trace,
-    pub answer: NonceAnswer,
-}
-
-#[derive(Clone, Copy)]
-pub struct AskedPassKey {
-    pub trace: Trace,
-    pub answer: PassKeyAnswer,
-}
-
-#[derive(Clone, Copy)]
-pub struct AskedLongTermKey {
-    pub trace: Trace,
-    pub answer: LongTermKeyAnswer,
-}
-
-#[derive(Clone, Copy)]
-pub struct AskedEdiv {
-    pub trace: Trace,
-    pub answer: EdivAnswer,
-}
-
-#[derive(Clone, Copy)]
-pub struct AskedRand {
-    pub trace: Trace,
-    pub answer: RandAnswer,
-}
-
-#[derive(Clone, Copy)]
-pub enum TakenAddress {
-    Ok(Address),
-    Not(Halt),
-}
-
-#[derive(Clone, Copy)]
-pub struct AskedAddress {
-    pub trace: Trace,
-    pub answer: TakenAddress,
-}
-
-#[derive(Clone, Copy)]
-pub enum TakenBond {
-    Ok(BondInformation),
-    Not(Halt),
-}
-
-#[derive(Clone, Copy)]
-pub struct AskedBond {
-    pub trace: Trace,
-    pub answer: TakenBond,
-}
-
-#[derive(Clone, Copy)]
-pub enum TakenOptionBond {
-    Ok(OptionBond),
-    Not(Halt),
-}
-
-#[derive(Clone, Copy)]
-pub struct AskedOptionBond {
-    pub trace: Trace,
-    pub answer: TakenOptionBond,
-}
-
-impl Delivered {
-    // Why it is not delivered; that an answer is wanted, where it is.
-    pub fn halt(self) -> Halt
-        ensures { result ≡ halt_of self }
+impl<'a> Ops<'a> {
+    pub fn new(answers: &'a [u8]) -> Ops<'a>
+        ensures trace { result.trace ≡ no_trace }
+        ensures answers { result.answers ≡ answers.entry }
     {
-        match self {
-            Delivered::Yes => Halt::Stop(Stop::Wanted),
-            Delivered::Not(halt) => halt,
+        Ops {
+            trace: Trace::none(),
+            answers,
         }
     }
 
-    // A failure to send that does not matter.
-    pub fn attempted(self) -> Attempted
-        ensures { result ≡ attempted_of self }
+    // One more call. Gives the place of its answer.
+    fn list(&mut self, call: Call) -> usize
+        ensures trace { self.new.trace ≡ push_of self.old.trace call }
+        ensures place { result ≡ self.old.trace.read }
+        ensures answers { self.new.answers ≡ self.old.answers }
     {
-        match self {
-            Delivered::Yes => Attempted::Yes,
-            Delivered::Not(halt) => match halt {
-                Halt::Failed(_) => Attempted::Yes,
-                Halt::Stop(stop) => Attempted::Stop(stop),
-            },
-        }
+        let at = self.trace.read;
+        self.trace.push(call);
+        at
     }
-}
 
-impl Attempted {
-    // Why there is no verdict; Wanted where there is one.
-    pub fn stop(self) -> Stop
-        ensures { result ≡ attempt_stop self }
+    // A call that is answered by a verdict alone.
+    fn tell(&mut self, call: Call) -> Result<(), Halt>
+        ensures ran { ran_delivery self.new.trace result ≡ told call self.old.answers.now self.old.trace }
+        ensures answers { self.new.answers ≡ self.old.answers }
     {
-        match self {
-            Attempted::Yes => Stop::Wanted,
-            Attempted::Stop(stop) => stop,
+        let at = self.list(call);
+        let verdict = read_verdict(self.answers, at, call.kind())?;
+        self.trace.read = at + 2;
+        if verdict != 0 {
+            return Err(Halt::Failed(Error::from_verdict(verdict)));
         }
+        Ok(())
     }
-}
 
-impl TakenAddress {
-    pub fn halt(self) -> Halt
-        ensures { result ≡ address_halt self }
+    // A question that is answered by yes or no.
+    fn ask_flag(&mut self, question: Question) -> Result<bool, Stop>
+        ensures ran { ran_answer self.new.trace result ≡ asked_flag question self.old.answers.now self.old.trace }
+        ensures answers { self.new.answers ≡ self.old.answers }
     {
-        match self {
-            TakenAddress::Ok(_) => Halt::Stop(Stop::Wanted),
-            TakenAddress::Not(halt) => halt,
-        }
+        let at = self.list(Call::Ask(question));
+        let yes = read_yes_no(self.answers, at, question)?;
+        self.trace.read = at + 2;
+        Ok(yes)
     }
-}
 
-impl TakenBond {
-    pub fn halt(self) -> Halt
-        ensures { result ≡ bond_halt self }
+    #[tactic(auto, unfolding(crate::specs::Run::answer_to))]
+    pub fn try_send_packet(&mut self, packet: Packet) -> Result<(), Halt>
+        ensures ran { ran_delivery self.new.trace result ≡ answer_to (call.SendPacket packet) self.old.answers.now self.old.trace }
+        ensures answers { self.new.answers ≡ self.old.answers }
     {
-        match self {
-            TakenBond::Ok(_) => Halt::Stop(Stop::Wanted),
-            TakenBond::Not(halt) => halt,
-        }
+        self.tell(Call::SendPacket(packet))
     }
-}
 
-impl TakenOptionBond {
-    pub fn halt(self) -> Halt
-        ensures { result ≡ option_bond_halt self }
+    // Whether there is a bond.
+    #[tactic(auto, unfolding(crate::specs::Run::answer_to))]
+    pub fn find_bond(&mut self) -> Result<bool, Stop>
+        ensures ran { ran_answer self.new.trace result ≡ answer_to (call.Ask question.FindBond) self.old.answers.now self.old.trace }
+        ensures answers { self.new.answers ≡ self.old.answers }
     {
-        match self {
-            TakenOptionBond::Ok(_) => Halt::Stop(Stop::Wanted),
-            TakenOptionBond::Not(halt) => halt,
-        }
+        self.ask_flag(Question::FindBond)
     }
-}
 
-// The trace behind an answer at a place of the answers, whose body has this length.
-fn behind(trace: Trace, answers: &[u8], at: usize, size: usize) -> Trace
-    requires { at + (1 + size) ≤ length answers.now }
-    ensures { result ≡ read_to (at + (1 + size)) trace }
-{
-    let mut next = trace;
-    next.read = at + (1 + size);
-    next
-}
-
-// A call that is answered by a verdict alone.
-fn tell(trace: Trace, answers: &[u8], call: Call) -> Sent
-    ensures { ran_sent result ≡ on_taken (push_of trace call) (taken (trace.read + 2) (delivery_at answers.now trace.read (kind_of call))) }
-{
-    let at = trace.read;
-    let pushed = trace.push(call);
-    let answer = read_verdict(answers, at, call.kind());
-    let VerdictAnswer::Verdict(verdict) = answer else {
-        return Sent {
-            trace: pushed,
-            answer: Delivered::Not(Halt::Stop(answer.stop())),
-        };
-    };
-    let after = behind(pushed, answers, at, 1);
-    if verdict == 0 {
-        return Sent {
-            trace: after,
-            answer: Delivered::Yes,
-        };
+    #[tactic(auto, unfolding(crate::specs::Run::answer_to))]
+    pub fn try_enable_bonded_encryption(&mut self) -> Result<Option<BondInformation>, Halt>
+        ensures ran { ran_result self.new.trace result ≡ answer_to call.EnableBondedEncryption self.old.answers.now self.old.trace }
+        ensures answers { self.new.answers ≡ self.old.answers }
+    {
+        let at = self.list(Call::EnableBondedEncryption);
+        let bond = read_bonded_encryption(self.answers, at)?;
+        self.trace.read = at + 54;
+        Ok(bond?)
     }
-    let error = Error::from_verdict(verdict);
-    Sent {
-        trace: after,
-        answer: Delivered::Not(Halt::Failed(error)),
+
+    // Not bonded: EDIV and Rand are zero.
+    #[tactic(auto, unfolding(crate::specs::Run::answer_to))]
+    pub fn try_enable_encryption(
+        &mut self,
+        ltk: LongTermKey,
+        security_level: u8,
+        encryption_key_len: u8,
+    ) -> Result<BondInformation, Halt>
+        ensures ran { ran_result self.new.trace result ≡ answer_to (call.EnableEncryption ltk security_level encryption_key_len) self.old.answers.now self.old.trace }
+        ensures answers { self.new.answers ≡ self.old.answers }
+    {
+        let at = self.list(Call::EnableEncryption {
+            ltk,
+            security_level,
+            encryption_key_len,
+        });
+        let bond = read_encryption(self.answers, at)?;
+        self.trace.read = at + 53;
+        Ok(bond?)
     }
-}
 
-// A question that is answered by yes or no.
-fn ask_flag(trace: Trace, answers: &[u8], question: Question) -> AskedFlag
-    ensures { ran_flag result ≡ on_taken (push_of trace (call.Ask question)) (taken (trace.read + 2) (flag_at answers.now trace.read (question_kind question))) }
-{
-    let at = trace.read;
-    let pushed = trace.push(Call::Ask(question));
-    let answer = read_yes_no(answers, at, question);
-    let FlagAnswer::Flag(_) = answer else {
-        return AskedFlag {
-            trace: pushed,
-            answer,
-        };
-    };
-    let after = behind(pushed, answers, at, 1);
-    AskedFlag {
-        trace: after,
-        answer,
+    #[tactic(auto, unfolding(crate::specs::Run::answer_to))]
+    pub fn try_update_bond_information(&mut self, bond: BondInformation) -> Result<(), Halt>
+        ensures ran { ran_delivery self.new.trace result ≡ answer_to (call.UpdateBondInformation bond) self.old.answers.now self.old.trace }
+        ensures answers { self.new.answers ≡ self.old.answers }
+    {
+        self.tell(Call::UpdateBondInformation(bond))
     }
-}
 
-pub fn try_send_packet(trace: Trace, answers: &[u8], packet: Packet) -> Sent
-    ensures { ran_sent result ≡ answer_to (call.SendPacket packet) answers.now trace }
-{
-    tell(trace, answers, Call::SendPacket(packet))
-}
-
-// Whether there is a bond.
-pub fn find_bond(trace: Trace, answers: &[u8]) -> AskedFlag
-    ensures { ran_flag result ≡ answer_to (call.Ask question.FindBond) answers.now trace }
-{
-    ask_flag(trace, answers, Question::FindBond)
-}
-
-pub fn try_enable_bonded_encryption(trace: Trace, answers: &[u8]) -> AskedOptionBond
-    ensures { ran_option_bond result ≡ answer_to (call.EnableBondedEncryption) answers.now trace }
-{
-    let at = trace.read;
-    let pushed = trace.push(Call::EnableBondedEncryption);
-    let answer = read_bonded_encryption(answers, at);
-    let BondedEncryptionAnswer::BondedEncryption(result) = answer else {
-        return AskedOptionBond {
-            trace: pushed,
-            answer: TakenOptionBond::Not(Halt::Stop(answer.stop())),
-        };
-    };
-    let after = behind(pushed, answers, at, 53);
-    match result {
-        OptionBondResult::Ok(value) => {
-            return AskedOptionBond {
-                trace: after,
-                answer: TakenOptionBond::Ok(value),
-            };
-        }
-        OptionBondResult::Err(error) => {
-            return AskedOptionBond {
-                trace: after,
-                answer: TakenOptionBond::Not(Halt::Failed(error)),
-            };
-        }
+    #[tactic(auto, unfolding(crate::specs::Run::answer_to))]
+    pub fn try_send_connection_event(&mut self, event: ConnectionEvent) -> Result<(), Halt>
+        ensures ran { ran_delivery self.new.trace result ≡ answer_to (call.SendConnectionEvent event) self.old.answers.now self.old.trace }
+        ensures answers { self.new.answers ≡ self.old.answers }
+    {
+        self.tell(Call::SendConnectionEvent(event))
     }
-}
 
-// Not bonded: EDIV and Rand are zero.
-pub fn try_enable_encryption(
-    trace: Trace,
-    answers: &[u8],
-    ltk: LongTermKey,
-    security_level: u8,
-    encryption_key_len: u8,
-) -> AskedBond
-    ensures { ran_bond result ≡ answer_to (call.EnableEncryption ltk security_level encryption_key_len) answers.now trace }
-{
-    let at = trace.read;
-    let pushed = trace.push(Call::EnableEncryption {
-        ltk,
-        security_level,
-        encryption_key_len,
-    });
-    let answer = read_encryption(answers, at);
-    let EncryptionAnswer::Encryption(result) = answer else {
-        return AskedBond {
-            trace: pushed,
-            answer: TakenBond::Not(Halt::Stop(answer.stop())),
-        };
-    };
-    let after = behind(pushed, answers, at, 52);
-    match result {
-        BondResult::Ok(value) => {
-            return AskedBond {
-                trace: after,
-                answer: TakenBond::Ok(value),
-            };
-        }
-        BondResult::Err(error) => {
-            return AskedBond {
-                trace: after,
-                answer: TakenBond::Not(Halt::Failed(error)),
-            };
-        }
+    // Whether the host wishes to bond.
+    #[tactic(auto, unfolding(crate::specs::Run::answer_to))]
+    pub fn bonding_flag(&mut self) -> Result<bool, Stop>
+        ensures ran { ran_answer self.new.trace result ≡ answer_to (call.Ask question.BondingFlag) self.old.answers.now self.old.trace }
+        ensures answers { self.new.answers ≡ self.old.answers }
+    {
+        self.ask_flag(Question::BondingFlag)
     }
-}
 
-pub fn try_update_bond_information(trace: Trace, answers: &[u8], bond: BondInformation) -> Sent
-    ensures { ran_sent result ≡ answer_to (call.UpdateBondInformation bond) answers.now trace }
-{
-    tell(trace, answers, Call::UpdateBondInformation(bond))
-}
-
-pub fn try_send_connection_event(trace: Trace, answers: &[u8], event: ConnectionEvent) -> Sent
-    ensures { ran_sent result ≡ answer_to (call.SendConnectionEvent event) answers.now trace }
-{
-    tell(trace, answers, Call::SendConnectionEvent(event))
-}
-
-// Whether the host wishes to bond.
-pub fn bonding_flag(trace: Trace, answers: &[u8]) -> AskedFlag
-    ensures { ran_flag result ≡ answer_to (call.Ask question.BondingFlag) answers.now trace }
-{
-    ask_flag(trace, answers, Question::BondingFlag)
-}
-
-// Whether OOB data is available for this connection.
-pub fn oob_available(trace: Trace, answers: &[u8]) -> AskedFlag
-    ensures { ran_flag result ≡ answer_to (call.Ask question.OobAvailable) answers.now trace }
-{
-    ask_flag(trace, answers, Question::OobAvailable)
-}
-
-// The local Identity Resolving Key; all zeros where there is none.
-pub fn local_irk(trace: Trace, answers: &[u8]) -> AskedIrk
-    ensures { ran_irk result ≡ answer_to (call.Ask question.LocalIrk) answers.now trace }
-{
-    let at = trace.read;
-    let pushed = trace.push(Call::Ask(Question::LocalIrk));
-    let answer = read_irk(answers, at);
-    let IrkAnswer::Irk(_) = answer else {
-        return AskedIrk {
-            trace: pushed,
-            answer,
-        };
-    };
-    let after = behind(pushed, answers, at, 16);
-    AskedIrk {
-        trace: after,
-        answer,
+    // Whether OOB data is available for this connection.
+    #[tactic(auto, unfolding(crate::specs::Run::answer_to))]
+    pub fn oob_available(&mut self) -> Result<bool, Stop>
+        ensures ran { ran_answer self.new.trace result ≡ answer_to (call.Ask question.OobAvailable) self.old.answers.now self.old.trace }
+        ensures answers { self.new.answers ≡ self.old.answers }
+    {
+        self.ask_flag(Question::OobAvailable)
     }
-}
 
-// The local identity address, which may be another than the one used in pairing.
-pub fn local_identity_address(trace: Trace, answers: &[u8]) -> AskedAddress
-    ensures { ran_address result ≡ answer_to (call.Ask question.LocalIdentityAddress) answers.now trace }
-{
-    let at = trace.read;
-    let pushed = trace.push(Call::Ask(Question::LocalIdentityAddress));
-    let answer = read_identity_address(answers, at);
-    let AddressAnswer::Address(result) = answer else {
-        return AskedAddress {
-            trace: pushed,
-            answer: TakenAddress::Not(Halt::Stop(answer.stop())),
-        };
-    };
-    let after = behind(pushed, answers, at, 8);
-    match result {
-        AddressResult::Ok(value) => {
-            return AskedAddress {
-                trace: after,
-                answer: TakenAddress::Ok(value),
-            };
-        }
-        AddressResult::Err(error) => {
-            return AskedAddress {
-                trace: after,
-                answer: TakenAddress::Not(Halt::Failed(error)),
-            };
-        }
+    // The local Identity Resolving Key; all zeros where there is none.
+    #[tactic(auto, unfolding(crate::specs::Run::answer_to))]
+    pub fn local_irk(&mut self) -> Result<IdentityResolvingKey, Stop>
+        ensures ran { ran_answer self.new.trace result ≡ answer_to (call.Ask question.LocalIrk) self.old.answers.now self.old.trace }
+        ensures answers { self.new.answers ≡ self.old.answers }
+    {
+        let at = self.list(Call::Ask(Question::LocalIrk));
+        let irk = read_irk(self.answers, at)?;
+        self.trace.read = at + 17;
+        Ok(irk)
     }
-}
 
-// Mrand or Srand; never zero.
-pub fn draw_nonce(trace: Trace, answers: &[u8]) -> AskedNonce
-    ensures { ran_nonce result ≡ answer_to (call.Draw draw.Nonce) answers.now trace }
-{
-    let at = trace.read;
-    let pushed = trace.push(Call::Draw(Draw::Nonce));
-    let answer = read_nonce(answers, at);
-    let NonceAnswer::Nonce(_) = answer else {
-        return AskedNonce {
-            trace: pushed,
-            answer,
-        };
-    };
-    let after = behind(pushed, answers, at, 16);
-    AskedNonce {
-        trace: after,
-        answer,
+    // The local identity address, which may be another than the one used in pairing.
+    #[tactic(auto, unfolding(crate::specs::Run::answer_to))]
+    pub fn local_identity_address(&mut self) -> Result<Address, Halt>
+        ensures ran { ran_result self.new.trace result ≡ answer_to (call.Ask question.LocalIdentityAddress) self.old.answers.now self.old.trace }
+        ensures answers { self.new.answers ≡ self.old.answers }
+    {
+        let at = self.list(Call::Ask(Question::LocalIdentityAddress));
+        let address = read_identity_address(self.answers, at)?;
+        self.trace.read = at + 9;
+        Ok(address?)
     }
-}
 
-pub fn draw_passkey(trace: Trace, answers: &[u8]) -> AskedPassKey
-    ensures { ran_pass_key result ≡ answer_to (call.Draw draw.PassKey) answers.now trace }
-{
-    let at = trace.read;
-    let pushed = trace.push(Call::Draw(Draw::PassKey));
-    let answer = read_passkey(answers, at);
-    let PassKeyAnswer::PassKey(_) = answer else {
-        return AskedPassKey {
-            trace: pushed,
-            answer,
-        };
-    };
-    let after = behind(pushed, answers, at, 4);
-    AskedPassKey {
-        trace: after,
-        answer,
+    // Mrand or Srand; never zero.
+    #[tactic(auto, unfolding(crate::specs::Run::answer_to))]
+    pub fn draw_nonce(&mut self) -> Result<Nonce, Stop>
+        ensures ran { ran_answer self.new.trace result ≡ answer_to (call.Draw draw.Nonce) self.old.answers.now self.old.trace }
+        ensures answers { self.new.answers ≡ self.old.answers }
+    {
+        let at = self.list(Call::Draw(Draw::Nonce));
+        let nonce = read_nonce(self.answers, at)?;
+        self.trace.read = at + 17;
+        Ok(nonce)
     }
-}
 
-pub fn draw_ltk(trace: Trace, answers: &[u8]) -> AskedLongTermKey
-    ensures { ran_ltk result ≡ answer_to (call.Draw draw.LongTermKey) answers.now trace }
-{
-    let at = trace.read;
-    let pushed = trace.push(Call::Draw(Draw::LongTermKey));
-    let answer = read_ltk(answers, at);
-    let LongTermKeyAnswer::LongTermKey(_) = answer else {
-        return AskedLongTermKey {
-            trace: pushed,
-            answer,
-        };
-    };
-    let after = behind(pushed, answers, at, 16);
-    AskedLongTermKey {
-        trace: after,
-        answer,
+    #[tactic(auto, unfolding(crate::specs::Run::answer_to))]
+    pub fn draw_passkey(&mut self) -> Result<PassKey, Stop>
+        ensures ran { ran_answer self.new.trace result ≡ answer_to (call.Draw draw.PassKey) self.old.answers.now self.old.trace }
+        ensures answers { self.new.answers ≡ self.old.answers }
+    {
+        let at = self.list(Call::Draw(Draw::PassKey));
+        let passkey = read_passkey(self.answers, at)?;
+        self.trace.read = at + 5;
+        Ok(passkey)
     }
-}
 
-pub fn draw_ediv(trace: Trace, answers: &[u8]) -> AskedEdiv
-    ensures { ran_ediv result ≡ answer_to (call.Draw draw.Ediv) answers.now trace }
-{
-    let at = trace.read;
-    let pushed = trace.push(Call::Draw(Draw::Ediv));
-    let answer = read_ediv(answers, at);
-    let EdivAnswer::Ediv(_) = answer else {
-        return AskedEdiv {
-            trace: pushed,
-            answer,
-        };
-    };
-    let after = behind(pushed, answers, at, 2);
-    AskedEdiv {
-        trace: after,
-        answer,
+    #[tactic(auto, unfolding(crate::specs::Run::answer_to))]
+    pub fn draw_ltk(&mut self) -> Result<LongTermKey, Stop>
+        ensures ran { ran_answer self.new.trace result ≡ answer_to (call.Draw draw.LongTermKey) self.old.answers.now self.old.trace }
+        ensures answers { self.new.answers ≡ self.old.answers }
+    {
+        let at = self.list(Call::Draw(Draw::LongTermKey));
+        let ltk = read_ltk(self.answers, at)?;
+        self.trace.read = at + 17;
+        Ok(ltk)
     }
-}
 
-pub fn draw_rand(trace: Trace, answers: &[u8]) -> AskedRand
-    ensures { ran_rand result ≡ answer_to (call.Draw draw.Rand) answers.now trace }
-{
-    let at = trace.read;
-    let pushed = trace.push(Call::Draw(Draw::Rand));
-    let answer = read_rand(answers, at);
-    let RandAnswer::Rand(_) = answer else {
-        return AskedRand {
-            trace: pushed,
-            answer,
-        };
-    };
-    let after = behind(pushed, answers, at, 8);
-    AskedRand {
-        trace: after,
-        answer,
+    #[tactic(auto, unfolding(crate::specs::Run::answer_to))]
+    pub fn draw_ediv(&mut self) -> Result<u16, Stop>
+        ensures ran { ran_answer self.new.trace result ≡ answer_to (call.Draw draw.Ediv) self.old.answers.now self.old.trace }
+        ensures answers { self.new.answers ≡ self.old.answers }
+    {
+        let at = self.list(Call::Draw(Draw::Ediv));
+        let ediv = read_ediv(self.answers, at)?;
+        self.trace.read = at + 3;
+        Ok(ediv)
+    }
+
+    #[tactic(auto, unfolding(crate::specs::Run::answer_to))]
+    pub fn draw_rand(&mut self) -> Result<u64, Stop>
+        ensures ran { ran_answer self.new.trace result ≡ answer_to (call.Draw draw.Rand) self.old.answers.now self.old.trace }
+        ensures answers { self.new.answers ≡ self.old.answers }
+    {
+        let at = self.list(Call::Draw(Draw::Rand));
+        let rand = read_rand(self.answers, at)?;
+        self.trace.read = at + 9;
+        Ok(rand)
     }
 }

@@ -3,7 +3,7 @@
 use crate::buffer::{octet, part, put, same};
 use crate::hosts::{HEAD, TERMINAL, record};
 use crate::print::{end, quoted, say, small};
-use octet_values::{DONE, read_features};
+use octet_values::read_features;
 use std::env::{Env, FillError};
 use std::io;
 use types::KeyDistributionFlags;
@@ -194,7 +194,7 @@ fn refused(rt: &impl Print, role: u8, features: &[u8]) -> io::Result<()> {
 fn is_features(rt: &impl Print, role: u8, records: &[u8]) -> io::Result<bool> {
     let mut fields = [0u8; 6];
     let features = record(role, records);
-    if read_features(features, &mut fields) == DONE {
+    if read_features(features, &mut fields).is_ok() {
         return Ok(true);
     }
     refused(rt, role, features)?;

@@ -57,7 +57,7 @@ pub(crate) fn put_oob_data(s: &mut [u8], place: usize) -> usize {
 // The bonding flag of an AuthReq octet.
 fn bonding_flag(auth_req: u8) -> u8 {
     let flag = AuthReq(auth_req).bond();
-    flag.into_u8()
+    u8::from(flag)
 }
 
 // The bond of the key for which encryption was called, after a verdict.

@@ -7,7 +7,7 @@ use crate::step::{Ran, run, send};
 use crate::trace::{input_line, start, state_line, summary};
 use octet_steps::new_machine;
 use std::io;
-use types::{Command, TryCommand};
+use types::Command;
 
 // The number of an input, of the oldest packet where it is one.
 fn input_number(given: Given, packets: &[u8]) -> u16 {
@@ -23,8 +23,8 @@ fn input_number(given: Given, packets: &[u8]) -> u16 {
 // The octets of a packet's payload.
 fn payload_size(code: u8) -> usize {
     match Command::try_from(code) {
-        TryCommand::Ok(command) => command.payload_size() as usize,
-        TryCommand::InvalidValue => 0,
+        Ok(command) => command.payload_size() as usize,
+        Err(_) => 0,
     }
 }
 
@@ -274,7 +274,8 @@ fn begin(role: u8, records: &[u8], machine: &mut [u8]) {
     let mut other = [0u8; 7];
     put_address(role, &mut own, 0);
     put_address(peer(role), &mut other, 0);
-    new_machine(role, &own, &other, record(role, records), machine);
+    // not refused: the arguments were read as features, and the addresses and the record have their lengths
+    let _ = new_machine(role, &own, &other, record(role, records), machine);
 }
 
 // Plays a pairing of two feature records, the terminal's first. At the start only the request is queued, to the head.

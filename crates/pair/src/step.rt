@@ -4,8 +4,8 @@ use crate::buffer::{part, put, put_all};
 use crate::hosts::put_answer;
 use crate::schedule::{End, after_call};
 use crate::trace::{call_line, refused_line};
-use octet_steps::{WANTS, step_machine};
-use octet_values::{DONE, call_at};
+use octet_steps::{Progress, StepError, step_machine};
+use octet_values::call_at;
 use std::io;
 
 // A packet joins the queue of the other end, whose octets end at a place; no other call does.
@@ -69,23 +69,15 @@ fn call_listed(
     records: &[u8],
     answers: &mut [u8],
 ) -> io::Result<Ran> {
-    let mut kind = 0;
-    let mut body = 0;
-    let mut size = 0;
-    let found = call_at(list, index, &mut kind, &mut body, &mut size);
-    if found != DONE {
-        refused_line(rt, found)?;
-        return Ok(ended(ran));
-    }
-    let call = part(list, body, size);
-    listed(rt, role, kind, call, ran, queue, records, answers)
-}
-
-#[derive(Clone, Copy)]
-struct Stepped {
-    outcome: u8,
-    // octets of calls on the list
-    written: usize,
+    let call = match call_at(list, index) {
+        Ok(call) => call,
+        Err(e) => {
+            refused_line(rt, u8::from(e))?;
+            return Ok(ended(ran));
+        }
+    };
+    let body = part(list, call.body, call.size);
+    listed(rt, role, call.kind, body, ran, queue, records, answers)
 }
 
 // A step with the answers so far.
@@ -97,21 +89,9 @@ fn step(
     machine: &mut [u8],
     answers: &[u8],
     list: &mut [u8],
-) -> Stepped {
-    let mut read = 0;
-    let mut written = 0;
+) -> Result<Progress, StepError> {
     let given = part(answers, 0, have);
-    let outcome = step_machine(
-        role,
-        machine,
-        input,
-        payload,
-        given,
-        list,
-        &mut read,
-        &mut written,
-    );
-    Stepped { outcome, written }
+    step_machine(role, machine, input, payload, given, list)
 }
 
 // Where the step wants an answer, its list has one call more than before, at this index.
@@ -128,16 +108,17 @@ fn run_once(
     answers: &mut [u8],
     list: &mut [u8],
 ) -> io::Result<Ran> {
-    let stepped = step(role, input, payload, ran.have, machine, answers, list);
-    if stepped.outcome == DONE {
-        return Ok(ended(ran));
+    match step(role, input, payload, ran.have, machine, answers, list) {
+        Ok(progress) if progress.is_ended => Ok(ended(ran)),
+        Ok(progress) => {
+            let calls = part(list, 0, progress.written);
+            call_listed(rt, role, index, calls, ran, queue, records, answers)
+        }
+        Err(e) => {
+            refused_line(rt, u8::from(e))?;
+            Ok(ended(ran))
+        }
     }
-    if stepped.outcome != WANTS {
-        refused_line(rt, stepped.outcome)?;
-        return Ok(ended(ran));
-    }
-    let calls = part(list, 0, stepped.written);
-    call_listed(rt, role, index, calls, ran, queue, records, answers)
 }
 
 // Runs a step until it ends: it makes at most 11 calls.

@@ -17,13 +17,12 @@ use Rattle.protocol.specs.declared.Outcome.TheVariants as outcome
 use Rattle.protocol.proofs.Limits.{most_octets}
 use Rattle.ops.specs.Run.{run}
 use Rattle.ops.proofs.Playing.{ran_as, run_first, listed_octets}
-use Rattle.handlers.specs.Outcomes.{finished_of}
 use Rattle.pairing.specs.Report.{reported}
 
 -- from a play whose calls have no more octets than a trace has room for
 play_reported :
     (m : Machine) (list : List ℕ) (cs : List Call) (n : ℕ) (e : Ending Machine) → length (calls_octets cs) ≤ longest →
-    reported m list (finished_of m (ran_as no_trace (record { ending = e; calls = cs; place = n }))) ≡ stepped m list cs n e
+    reported m list (ran_as no_trace (record { ending = e; calls = cs; place = n })) ≡ stepped m list cs n e
 play_reported m list cs n (ended m₁) h =
     ap (λ (w : List ℕ). record { stepped = record { outcome = outcome.Ended; machine = m₁; read = n; written = length w }; list = write_at list 0 w })
     (listed_octets n cs h)
@@ -35,7 +34,7 @@ play_reported m list cs n refusing h = refl
 -- where the list is long enough and the input is known, the step is what its input gave
 pub reported_step :
     (r : Role) (m : Machine) (i : Input) (payload answers list : List ℕ) → longest ≤ length list → is_known i ≡ true →
-    reported m list (finished_of m (run answers (handle_input_by_role r m i payload) no_trace)) ≡ step r m i payload answers list
+    reported m list (run answers (handle_input_by_role r m i payload) no_trace) ≡ step r m i payload answers list
 unfolding step play_of
 reported_step r m i payload answers list l k =
     let x = play_of r m i payload answers in

@@ -4,16 +4,14 @@ use Rattle.std.specs.Prelude.{ℕ, List, length}
 use Rattle.octets.specs.Octets.{write_at}
 use Rattle.host.specs.Calls.{listed}
 use Rattle.host.specs.declared.call.Trace.{Trace}
-use Rattle.answer.specs.Answers.{answer_refusal}
 use Rattle.answer.specs.declared.Stop.TheVariants.{Wanted, Refused}
 use Rattle.machine.specs.declared.Machine.{Machine}
+use Rattle.protocol.specs.declared.Refusal.TheVariants.{ForbiddenAnswer}
 use Rattle.protocol.specs.declared.Outcome.{Outcome}
 use Rattle.protocol.specs.declared.Outcome.TheVariants as outcome
 use Rattle.protocol.specs.declared.Stepped.{Stepped}
 use Rattle.protocol.specs.Step.{Step, refused_by}
-use Rattle.handlers.specs.declared.outcome.Finish.{Finish}
-use Rattle.handlers.specs.declared.outcome.Finish.TheVariants as finish
-use Rattle.handlers.specs.declared.outcome.Finished.{Finished}
+use Rattle.ops.specs.Run.{Ran, ended, stopped}
 
 -- the result of a step, and the list behind it
 abbrev pub step_of : Stepped → List ℕ → Step
@@ -27,11 +25,8 @@ listing o m list t =
       list = write_at list 0 (listed t);
     }
 
--- m is the machine before the step, m₁ the one that the input gave
-abbrev pub reported_by : Machine → List ℕ → Trace → Machine → Finish → Step
-reported_by m list t m₁ finish.Ended = listing outcome.Ended m₁ list t
-reported_by m list t m₁ (finish.Stop Wanted) = listing outcome.Wants m list t
-reported_by m list t m₁ (finish.Stop Refused) = refused_by answer_refusal m list
-
-abbrev pub reported : Machine → List ℕ → Finished → Step
-reported m list f = reported_by m list f.trace f.machine f.finish
+-- m is the machine before the step
+abbrev pub reported : Machine → List ℕ → Ran Machine → Step
+reported m list (ended m₁ t) = listing outcome.Ended m₁ list t
+reported m list (stopped Wanted t) = listing outcome.Wants m list t
+reported m list (stopped Refused t) = refused_by ForbiddenAnswer m list

@@ -2,26 +2,25 @@
 #![tactic(auto)]
 
 ghost use Rattle.std.specs.Prelude.{◌≡◌};
-ghost use Rattle.host.specs.Calls.{no_trace};
 ghost use Rattle.protocol.specs.declared.Outcome.TheVariants as outcome;
 ghost use Rattle.protocol.specs.Step.{step, handle_input_by_role, is_known};
 ghost use Rattle.ops.specs.Run.{run};
-ghost use Rattle.handlers.specs.Outcomes.{finished_of};
+ghost use Rattle.handlers.specs.Outcomes.{ran_entered};
 ghost use Rattle.pairing.specs.Report.{step_of, reported};
 
 use answer::Stop;
-use handlers::outcome::{Finish, Finished};
-use host::LONGEST;
+use host::{LONGEST, Trace};
 use machine::{Input, Machine, Role};
-pub use protocol::{Outcome, Stepped};
-use types::{Command, TryCommand};
+use ops::Ops;
+pub use protocol::{Outcome, Refusal, Stepped};
+use types::Command;
 
 // The machine given back as it was, and counts 0.
-fn refused(machine: Machine, number: u8) -> Stepped
-    ensures { result ≡ record { outcome = outcome.Refused number; machine = machine; read = 0; written = 0 } }
+fn refused(machine: Machine, refusal: Refusal) -> Stepped
+    ensures { result ≡ record { outcome = outcome.Refused refusal; machine = machine; read = 0; written = 0 } }
 {
     Stepped {
-        outcome: Outcome::Refused(number),
+        outcome: Outcome::Refused(refusal),
         machine,
         read: 0,
         written: 0,
@@ -33,63 +32,49 @@ fn is_known(input: Input) -> bool
     ensures { result ≡ is_known input }
 {
     match input {
-        Input::Command(code) => match Command::try_from(code) {
-            TryCommand::Ok(_) => true,
-            TryCommand::InvalidValue => false,
-        },
+        Input::Command(code) => Command::try_from(code).is_ok(),
         Input::Event(_) => true,
     }
 }
 
 fn handle_input(
     role: Role,
-    answers: &[u8],
-    machine: Machine,
+    ops: &mut Ops<'_>,
+    machine: &mut Machine,
     input: Input,
     payload: &[u8],
-) -> Finished
-    ensures { result ≡ finished_of machine (run answers.now (handle_input_by_role role machine input payload.now) no_trace) }
+) -> Result<(), Stop>
+    ensures ran { ran_entered ops.new.trace machine.new result ≡ run ops.old.answers.now (handle_input_by_role role machine.old input payload.now) ops.old.trace }
+    ensures answers { ops.new.answers ≡ ops.old.answers }
 {
     match role {
-        Role::Central => return legacy_central::handle_input(answers, machine, input, payload),
-        Role::Peripheral => {
-            return legacy_peripheral::handle_input(answers, machine, input, payload);
-        }
+        Role::Central => legacy_central::handle_input(ops, machine, input, payload),
+        Role::Peripheral => legacy_peripheral::handle_input(ops, machine, input, payload),
     }
 }
 
 // What an input gave, for the caller. A step that is refused or wants gives the machine back as it was; a refused one
 // leaves the list as it was.
-fn report(finished: Finished, current: Machine, list: &mut [u8]) -> Stepped
-    ensures { step_of result list.new ≡ reported current list.old finished }
+fn report(
+    trace: &Trace,
+    next: Machine,
+    ran: Result<(), Stop>,
+    current: Machine,
+    list: &mut [u8],
+) -> Stepped
+    ensures { step_of result list.new ≡ reported current list.old (ran_entered trace.now next ran) }
 {
-    let trace = finished.trace;
-    let finish = finished.finish;
-    let read = trace.read;
-    let written = trace.size();
-    match finish {
-        Finish::Ended => {
-            let next = finished.machine;
-            trace.write(list);
-            return Stepped {
-                outcome: Outcome::Ended,
-                machine: next,
-                read,
-                written,
-            };
-        }
-        Finish::Stop(stop) => match stop {
-            Stop::Wanted => {
-                trace.write(list);
-                return Stepped {
-                    outcome: Outcome::Wants,
-                    machine: current,
-                    read,
-                    written,
-                };
-            }
-            Stop::Refused => return refused(current, 3),
-        },
+    let (outcome, after) = match ran {
+        Ok(()) => (Outcome::Ended, next),
+        Err(Stop::Wanted) => (Outcome::Wants, current),
+        Err(Stop::Refused) => return refused(current, Refusal::ForbiddenAnswer),
+    };
+    trace.write(list);
+    Stepped {
+        outcome,
+        machine: after,
+        read: trace.read,
+        written: trace.size(),
     }
 }
 
@@ -106,11 +91,14 @@ pub fn step(
     ensures { record { stepped = result; list = list.new } ≡ step role machine input payload.now answers.now list.old }
 {
     if list.len() < LONGEST {
-        return refused(machine, 1);
+        return refused(machine, Refusal::ShortList);
     }
     if !is_known(input) {
-        return refused(machine, 2);
+        return refused(machine, Refusal::UnknownCommand);
     }
-    let finished = handle_input(role, answers, machine, input, payload);
-    report(finished, machine, list)
+    let mut ops = Ops::new(answers);
+    let mut next = machine;
+    let ran = handle_input(role, &mut ops, &mut next, input, payload);
+    let Ops { trace, answers: _ } = ops;
+    report(&trace, next, ran, machine, list)
 }

@@ -1,230 +1,127 @@
-// legacy_peripheral.rs, its lower part: the confirm value, the response, the method that begins, Srand, and the keys that
-// are sent. What a function open to legacy_peripheral gives back follows from its inputs alone.
+// legacy_peripheral.rs, its lower part: the confirm value, the request and the method that begins, Srand, and the keys
+// that are sent.
 #![tactic(auto)]
 
-ghost use Rattle.std.specs.Prelude.{◌≡◌, true};
-ghost use Rattle.types.specs.Types.{encryption_key_flag, identity_key_flag};
-ghost use Rattle.answer.specs.Answers.{flag_answer, stop_of};
-ghost use Rattle.ops.specs.declared.Delivered.TheVariants as verdict;
-ghost use Rattle.ops.specs.declared.Halt.TheVariants as halt;
-ghost use Rattle.protocol.specs.Handlers.{names_identity_key, names_encryption_key, send_encryption_key, with_keys};
-ghost use Rattle.protocol.specs.LegacyPeripheral.{confirm_value, send_sconfirm};
-ghost use Rattle.protocol.specs.LegacyPeripheral.{add_key, new_legacy, with_mitm, with_oob, initiator_keys, responder_keys, identity_offered, response_features, begin_method, on_mrand, handle_pairing_random};
+ghost use Rattle.std.specs.Prelude.{◌≡◌, OnErr};
+ghost use Rattle.protocol.specs.Handlers.{names_encryption_key, send_encryption_key, with_keys};
+ghost use Rattle.protocol.specs.LegacyPeripheral.{confirm_value, send_sconfirm, handle_pairing_random};
+ghost use Rattle.protocol.specs.LegacyPeripheral.{initiator_keys, responder_keys, with_mitm, new_legacy, response_features, begin_method, handle_pairing_request};
 ghost use Rattle.ops.specs.Run.{run};
-ghost use Rattle.handlers.specs.Outcomes.{outcome_of, data_of, Sends, SendsConfirm};
-ghost use Rattle.peripheral_helpers.specs.Requests.{report_bond_lost, negotiated, respond, display_pass_key, ran_offered};
-ghost use Rattle.machine.specs.Machine.{no_confirm_data};
+ghost use Rattle.handlers.specs.Outcomes.{ran_machine, ran_data, ran_nonce};
 
-use answer::{FlagAnswer, IrkAnswer, NonceAnswer, PassKeyAnswer};
 use bond::Error;
 use crypto::{Confirm, Nonce, c1, s1};
-use handlers::keys::{TakenKeys, draw_keys, send_encryption_packets, with_keys};
-use handlers::outcome::{ConfirmSent, DataSent, Outcome};
-use handlers::packet::{make_confirm_packet, make_pairing_random};
-use handlers::payload::{TryWord, read_payload_word, response_octets};
-use host::{ConnectionEvent, Packet, Trace};
-use machine::{ConfirmPhaseData, PairingData, Phase};
-use octets::Word128;
-use ops::{
-    AskedFlag, Attempted, Delivered, Halt, Sent, bonding_flag, draw_nonce, draw_passkey, find_bond,
-    local_irk, oob_available, try_send_connection_event, try_send_packet,
+use handlers::keys::{draw_keys, with_keys};
+use handlers::packet::{
+    make_central_identification_packet, make_confirm_packet, make_encryption_information_packet,
+    make_pairing_random,
 };
+use handlers::payload::{command_octets, read_features, read_payload_word};
+use host::{ConnectionEvent, Packet};
+use machine::{Machine, PairingData, Phase};
+use ops::{Halt, Ops};
 use phases::{confirm_phase_data, enable_encryption, request_oob_data, request_pass_key};
 use types::{
-    AuthReq, BondingFlag, IoCapabilities, KeyDistributionFlags, PairingFeatures, Reason,
+    AuthReq, BondingFlag, Command, IoCapabilities, KeyDistributionFlags, PairingFeatures, Reason,
     UseOutOfBand,
 };
 use util::{PairingMethod, PassKeyEntryAction, legacy_pairing_method};
 
 // c1 of a nonce: the peer is the initiator.
-fn confirm_value(confirm_data: ConfirmPhaseData, pairing_data: PairingData, nonce: Nonce) -> Confirm
-    ensures { result ≡ confirm_value confirm_data pairing_data nonce }
+#[tactic(auto, unfolding(protocol::specs::LegacyPeripheral::confirm_value))]
+fn confirm_value(machine: &Machine, nonce: Nonce) -> Confirm
+    ensures { result ≡ confirm_value machine.now.confirm_data machine.now.pairing_data nonce }
 {
-    let preq = confirm_data.preq;
-    let pres = confirm_data.pres;
-    let initiator = pairing_data.peer_address;
-    let responder = pairing_data.local_address;
-    let iat = initiator.addr_type();
-    let ia = initiator.addr.into_inner();
-    let rat = responder.addr_type();
-    let ra = responder.addr.into_inner();
-    c1(confirm_data.tk, nonce, preq, pres, iat, ia, rat, ra)
+    let preq = machine.confirm_data.preq;
+    let pres = machine.confirm_data.pres;
+    let initiator = machine.pairing_data.peer_address;
+    let responder = machine.pairing_data.local_address;
+    c1(
+        machine.confirm_data.tk,
+        nonce,
+        preq,
+        pres,
+        initiator.addr_type(),
+        initiator.addr.into_inner(),
+        responder.addr_type(),
+        responder.addr.into_inner(),
+    )
 }
 
 // LTK, EDIV and Rand, where they were agreed; the bond keeps them.
+#[tactic(auto, unfolding(protocol::specs::Handlers::send_encryption_key))]
 pub fn send_encryption_keys(
-    trace: Trace,
-    answers: &[u8],
-    pairing_data: PairingData,
+    ops: &mut Ops<'_>,
+    pairing_data: &mut PairingData,
     named: KeyDistributionFlags,
-) -> DataSent
-    ensures { result ≡ data_of pairing_data (run answers.now (send_encryption_key pairing_data (λ ltk ediv rand. with_keys ltk ediv rand pairing_data) (names_encryption_key named)) trace) }
+) -> Result<(), Halt>
+    ensures ran { ran_data ops.new.trace pairing_data.new result ≡ run ops.old.answers.now (send_encryption_key pairing_data.old (λ ltk ediv rand. with_keys ltk ediv rand pairing_data.old) (names_encryption_key named)) ops.old.trace }
+    ensures answers { ops.new.answers ≡ ops.old.answers }
+    ensures kept { OnErr result (pairing_data.new ≡ pairing_data.old) }
 {
-    if named.encryption_key() {
-        return send_kept_keys(trace, answers, pairing_data);
+    if !named.encryption_key() {
+        return Ok(());
     }
-    DataSent {
-        trace,
-        pairing_data,
-        answer: Delivered::Yes,
-    }
+    let keys = draw_keys(ops)?;
+    ops.try_send_packet(make_encryption_information_packet(keys.ltk))?;
+    ops.try_send_packet(make_central_identification_packet(keys.ediv, keys.rand))?;
+    *pairing_data = with_keys(*pairing_data, keys);
+    Ok(())
 }
 
-fn send_kept_keys(trace: Trace, answers: &[u8], pairing_data: PairingData) -> DataSent
-    ensures { result ≡ data_of pairing_data (run answers.now (send_encryption_key pairing_data (λ ltk ediv rand. with_keys ltk ediv rand pairing_data) true) trace) }
-{
-    let asked = draw_keys(trace, answers);
-    let trace1 = asked.trace;
-    let answer1 = asked.answer;
-    let TakenKeys::Ok(keys) = answer1 else {
-        let answer = Delivered::Not(Halt::Stop(answer1.stop()));
-        return DataSent {
-            trace: trace1,
-            pairing_data,
-            answer,
-        };
-    };
-    let sent = send_encryption_packets(trace1, answers, keys);
-    let trace2 = sent.trace;
-    let answer2 = sent.answer;
-    let Delivered::Yes = answer2 else {
-        return DataSent {
-            trace: trace2,
-            pairing_data,
-            answer: answer2,
-        };
-    };
-    DataSent {
-        trace: trace2,
-        pairing_data: with_keys(pairing_data, keys),
-        answer: Delivered::Yes,
-    }
-}
+// --- Protocol helpers ---
 
-// A request while there is a bond: the bond is lost. A failure to send the event does not matter.
-pub fn report_bond_lost(trace: Trace, answers: &[u8]) -> Sent
-    ensures { Sends answers.now trace (λ d. report_bond_lost) result }
+#[tactic(auto, unfolding(protocol::specs::LegacyPeripheral::handle_pairing_request, protocol::specs::Handlers::features_in))]
+pub fn handle_pairing_request(
+    ops: &mut Ops<'_>,
+    machine: &mut Machine,
+    payload: &[u8],
+) -> Result<(), Halt>
+    ensures ran { ran_machine ops.new.trace machine.new result ≡ run ops.old.answers.now (handle_pairing_request machine.old.pairing_data payload.now) ops.old.trace }
+    ensures answers { ops.new.answers ≡ ops.old.answers }
 {
-    let asked = find_bond(trace, answers);
-    let trace1 = asked.trace;
-    let answer1 = asked.answer;
-    let FlagAnswer::Flag(found) = answer1 else {
-        let answer = Delivered::Not(Halt::Stop(answer1.stop()));
-        return Sent {
-            trace: trace1,
-            answer,
-        };
-    };
-    if found {
-        let sent = try_send_connection_event(trace1, answers, ConnectionEvent::BondLost);
-        let trace2 = sent.trace;
-        let answer2 = sent.answer;
-        let attempt = answer2.attempted();
-        let Attempted::Yes = attempt else {
-            let answer = Delivered::Not(Halt::Stop(attempt.stop()));
-            return Sent {
-                trace: trace2,
-                answer,
-            };
-        };
-        return Sent {
-            trace: trace2,
-            answer: Delivered::Yes,
-        };
+    // A failure to send the event does not matter.
+    if ops.find_bond()?
+        && let Err(Halt::Stop(stop)) = ops.try_send_connection_event(ConnectionEvent::BondLost)
+    {
+        return Err(Halt::Stop(stop));
     }
-    Sent {
-        trace: trace1,
-        answer: Delivered::Yes,
-    }
-}
-
-// The features that the response has, and the method of both.
-pub fn negotiate(
-    trace: Trace,
-    answers: &[u8],
-    pairing_data: PairingData,
-    peer_features: PairingFeatures,
-) -> DataSent
-    ensures { result ≡ data_of pairing_data (run answers.now (negotiated pairing_data peer_features) trace) }
-{
-    let asked1 = identity_key_offered(trace, answers, peer_features.responder_key_distribution);
-    let trace1 = asked1.trace;
-    let answer1 = asked1.answer;
-    let FlagAnswer::Flag(offered) = answer1 else {
-        return no_answer(trace1, pairing_data, answer1);
-    };
-    let asked2 = bonding_flag(trace1, answers);
-    let trace2 = asked2.trace;
-    let answer2 = asked2.answer;
-    let FlagAnswer::Flag(bonding) = answer2 else {
-        return no_answer(trace2, pairing_data, answer2);
-    };
-    let asked3 = oob_available(trace2, answers);
-    let trace3 = asked3.trace;
-    let answer3 = asked3.answer;
-    let FlagAnswer::Flag(available) = answer3 else {
-        return no_answer(trace3, pairing_data, answer3);
-    };
-    let local = pairing_data.local_features;
+    let peer_features = read_features(payload)?;
+    let mut request = [0; 6];
+    request.copy_from_slice(payload);
+    let preq = command_octets(Command::PairingRequest, request);
+    // Without a local IRK, identity key distribution is declined.
+    let offered = peer_features.responder_key_distribution.identity_key()
+        && ops.local_irk()?.0 != 0;
+    let bonding = ops.bonding_flag()?;
+    let available = ops.oob_available()?;
+    let local = machine.pairing_data.local_features;
     let local_features = response_features(local, peer_features, offered, bonding, available);
-    DataSent {
-        trace: trace3,
-        pairing_data: PairingData {
-            local_features,
-            peer_features,
-            pairing_method: legacy_pairing_method(peer_features, local_features),
-            ..pairing_data
-        },
-        answer: Delivered::Yes,
-    }
-}
-
-fn no_answer(trace: Trace, pairing_data: PairingData, flag: FlagAnswer) -> DataSent
-    ensures { result ≡ record { trace = trace; pairing_data = pairing_data; answer = verdict.Not (halt.Stop (stop_of (flag_answer flag))) } }
-{
-    DataSent {
-        trace,
-        pairing_data,
-        answer: Delivered::Not(Halt::Stop(flag.stop())),
-    }
-}
-
-// Without a local IRK, identity key distribution is declined.
-fn identity_key_offered(trace: Trace, answers: &[u8], named: KeyDistributionFlags) -> AskedFlag
-    ensures { ran_offered result ≡ run answers.now (identity_offered (names_identity_key named)) trace }
-{
-    if named.identity_key() {
-        let asked = local_irk(trace, answers);
-        let trace1 = asked.trace;
-        let answer1 = asked.answer;
-        let IrkAnswer::Irk(irk) = answer1 else {
-            let answer = FlagAnswer::Stop(answer1.stop());
-            return AskedFlag {
-                trace: trace1,
-                answer,
-            };
-        };
-        let none = irk.0.equals(Word128 { low: 0, high: 0 });
-        return AskedFlag {
-            trace: trace1,
-            answer: FlagAnswer::Flag(!none),
-        };
-    }
-    AskedFlag {
-        trace,
-        answer: FlagAnswer::Flag(false),
-    }
+    machine.pairing_data.local_features = local_features;
+    machine.pairing_data.peer_features = peer_features;
+    machine.pairing_data.pairing_method = legacy_pairing_method(peer_features, local_features);
+    ops.try_send_packet(Packet::PairingResponse(local_features))?;
+    let pres = command_octets(Command::PairingResponse, local_features.encode());
+    begin_method(ops, machine, preq, pres)
 }
 
 // What the request names is added to what the local features name.
+#[tactic(auto, unfolding(protocol::specs::LegacyPeripheral::initiator_keys))]
 fn initiator_keys(local: KeyDistributionFlags, peer: KeyDistributionFlags) -> KeyDistributionFlags
     ensures { result ≡ initiator_keys local peer }
 {
-    let identity = add_identity_key(local, peer.identity_key());
-    add_encryption_key(identity, peer.encryption_key())
+    let mut keys = local;
+    if peer.identity_key() {
+        keys = keys.set_identity_key();
+    }
+    if peer.encryption_key() {
+        keys = keys.set_encryption_key();
+    }
+    keys
 }
 
 // .. of the identity key only where `offered`.
+#[tactic(auto, unfolding(protocol::specs::LegacyPeripheral::responder_keys))]
 fn responder_keys(
     local: KeyDistributionFlags,
     peer: KeyDistributionFlags,
@@ -232,52 +129,34 @@ fn responder_keys(
 ) -> KeyDistributionFlags
     ensures { result ≡ responder_keys local peer offered }
 {
-    let identity = add_identity_key(local, offered);
-    add_encryption_key(identity, peer.encryption_key())
-}
-
-fn add_identity_key(flags: KeyDistributionFlags, named: bool) -> KeyDistributionFlags
-    ensures { result ≡ add_key identity_key_flag flags named }
-{
-    if named {
-        return flags.set_identity_key();
+    let mut keys = local;
+    if offered {
+        keys = keys.set_identity_key();
     }
-    flags
-}
-
-fn add_encryption_key(flags: KeyDistributionFlags, named: bool) -> KeyDistributionFlags
-    ensures { result ≡ add_key encryption_key_flag flags named }
-{
-    if named {
-        return flags.set_encryption_key();
+    if peer.encryption_key() {
+        keys = keys.set_encryption_key();
     }
-    flags
-}
-
-fn new_legacy(bonding: bool) -> AuthReq
-    ensures { result ≡ new_legacy bonding }
-{
-    if bonding {
-        return AuthReq::new_legacy(BondingFlag::Bonding);
-    }
-    AuthReq::new_legacy(BondingFlag::NoBonding)
+    keys
 }
 
 // Protection against a man in the middle, where there is any input or output.
 fn authentication(bonding: bool, io: IoCapabilities) -> AuthReq
     ensures { result ≡ with_mitm (new_legacy bonding) io }
 {
-    let legacy = new_legacy(bonding);
+    let flag = if bonding {
+        BondingFlag::Bonding
+    } else {
+        BondingFlag::NoBonding
+    };
+    let auth_req = AuthReq::new_legacy(flag);
     match io {
-        IoCapabilities::NoInputNoOutput => legacy,
-        IoCapabilities::DisplayOnly => legacy.with_mitm(),
-        IoCapabilities::DisplayYesNo => legacy.with_mitm(),
-        IoCapabilities::KeyboardOnly => legacy.with_mitm(),
-        IoCapabilities::KeyboardDisplay => legacy.with_mitm(),
+        IoCapabilities::NoInputNoOutput => auth_req,
+        _ => auth_req.with_mitm(),
     }
 }
 
 // The local features as the response has them.
+#[tactic(auto, unfolding(protocol::specs::LegacyPeripheral::response_features))]
 fn response_features(
     local: PairingFeatures,
     peer: PairingFeatures,
@@ -287,213 +166,94 @@ fn response_features(
 ) -> PairingFeatures
     ensures { result ≡ response_features local peer offered bonding available }
 {
-    let io = local.io_capabilities;
-    let oob = local.use_oob;
-    let initiator = initiator_keys(
-        local.initiator_key_distribution,
-        peer.initiator_key_distribution,
-    );
-    let responder = responder_keys(
-        local.responder_key_distribution,
-        peer.responder_key_distribution,
-        offered,
-    );
     PairingFeatures {
-        use_oob: with_oob(oob, available),
-        security_properties: authentication(bonding, io),
-        initiator_key_distribution: initiator,
-        responder_key_distribution: responder,
+        use_oob: if available {
+            UseOutOfBand::Present
+        } else {
+            local.use_oob
+        },
+        security_properties: authentication(bonding, local.io_capabilities),
+        initiator_key_distribution: initiator_keys(
+            local.initiator_key_distribution,
+            peer.initiator_key_distribution,
+        ),
+        responder_key_distribution: responder_keys(
+            local.responder_key_distribution,
+            peer.responder_key_distribution,
+            offered,
+        ),
         ..local
     }
 }
 
-fn with_oob(oob: UseOutOfBand, available: bool) -> UseOutOfBand
-    ensures { result ≡ with_oob oob available }
-{
-    if available {
-        return UseOutOfBand::Present;
-    }
-    oob
-}
-
-pub fn send_pairing_response(
-    trace: Trace,
-    answers: &[u8],
-    preq: [u8; 7],
-    pairing_data: PairingData,
-) -> Outcome
-    ensures { result ≡ outcome_of no_confirm_data pairing_data (run answers.now (respond preq pairing_data) trace) }
-{
-    let features = pairing_data.local_features;
-    let method = pairing_data.pairing_method;
-    let pres = response_octets(features);
-    let sent = try_send_packet(trace, answers, Packet::PairingResponse(features));
-    let trace1 = sent.trace;
-    let answer = sent.answer;
-    let Delivered::Yes = answer else {
-        let none = ConfirmPhaseData::none();
-        return Outcome::not(trace1, none, pairing_data, answer.halt());
-    };
-    begin_method(trace1, answers, preq, pres, pairing_data, method)
-}
-
 // The method that was chosen begins.
+#[tactic(auto, unfolding(protocol::specs::LegacyPeripheral::begin_method))]
 fn begin_method(
-    trace: Trace,
-    answers: &[u8],
+    ops: &mut Ops<'_>,
+    machine: &mut Machine,
     preq: [u8; 7],
     pres: [u8; 7],
-    pairing_data: PairingData,
-    method: PairingMethod,
-) -> Outcome
-    ensures { result ≡ outcome_of no_confirm_data pairing_data (run answers.now (begin_method preq pres pairing_data method) trace) }
+) -> Result<(), Halt>
+    ensures ran { ran_machine ops.new.trace machine.new result ≡ run ops.old.answers.now (begin_method preq pres machine.old.pairing_data machine.old.pairing_data.pairing_method) ops.old.trace }
+    ensures answers { ops.new.answers ≡ ops.old.answers }
 {
-    let zero = Word128 { low: 0, high: 0 };
-    match method {
-        PairingMethod::OutOfBand => {
-            return request_oob_data(trace, answers, preq, pres, pairing_data);
-        }
+    match machine.pairing_data.pairing_method {
+        PairingMethod::OutOfBand => request_oob_data(ops, machine, preq, pres),
         PairingMethod::PassKeyEntry { peripheral, .. } => match peripheral {
             PassKeyEntryAction::Display => {
-                return display_pass_key(trace, answers, preq, pres, pairing_data);
+                let passkey = ops.draw_passkey()?;
+                ops.try_send_connection_event(ConnectionEvent::PassKeyDisplay(passkey))?;
+                let tk = u128::from(passkey.value());
+                machine.confirm_data = confirm_phase_data(tk, preq, pres);
+                machine.enters(Phase::WaitingPairingConfirm);
+                Ok(())
             }
-            PassKeyEntryAction::Input => {
-                return request_pass_key(trace, answers, preq, pres, pairing_data);
-            }
+            PassKeyEntryAction::Input => request_pass_key(ops, machine, preq, pres),
         },
         PairingMethod::JustWorks => {
-            let confirm_data = confirm_phase_data(zero, preq, pres);
-            let phase = Phase::WaitingPairingConfirm;
-            return Outcome::next(trace, confirm_data, pairing_data, phase);
+            machine.confirm_data = confirm_phase_data(0, preq, pres);
+            machine.enters(Phase::WaitingPairingConfirm);
+            Ok(())
         }
-        // never chosen in legacy pairing
-        PairingMethod::NumericComparison => {
-            let none = ConfirmPhaseData::none();
-            let error = Error::Security(Reason::AuthenticationRequirements);
-            return Outcome::failed(trace, none, pairing_data, error);
-        }
+        // Should not happen in legacy pairing
+        PairingMethod::NumericComparison => Err(Halt::Failed(Error::Security(
+            Reason::AuthenticationRequirements,
+        ))),
     }
 }
 
-// A passkey is drawn and shown, and is the temporary key.
-fn display_pass_key(
-    trace: Trace,
-    answers: &[u8],
-    preq: [u8; 7],
-    pres: [u8; 7],
-    pairing_data: PairingData,
-) -> Outcome
-    ensures { result ≡ outcome_of no_confirm_data pairing_data (run answers.now (display_pass_key preq pres pairing_data) trace) }
+// Sconfirm = c1(TK, Srand, preq, pres, iat, ia, rat, ra) of a fresh Srand, which the caller keeps.
+#[tactic(auto, unfolding(protocol::specs::LegacyPeripheral::send_sconfirm))]
+pub fn send_sconfirm(ops: &mut Ops<'_>, machine: &Machine) -> Result<Nonce, Halt>
+    ensures ran { ran_nonce ops.new.trace machine.now.pairing_data machine.now.confirm_data result ≡ run ops.old.answers.now (send_sconfirm machine.now.confirm_data machine.now.pairing_data) ops.old.trace }
+    ensures answers { ops.new.answers ≡ ops.old.answers }
 {
-    let none = ConfirmPhaseData::none();
-    let asked = draw_passkey(trace, answers);
-    let trace1 = asked.trace;
-    let answer1 = asked.answer;
-    let PassKeyAnswer::PassKey(passkey) = answer1 else {
-        return Outcome::stopped(trace1, none, pairing_data, answer1.stop());
-    };
-    let event = ConnectionEvent::PassKeyDisplay(passkey);
-    let sent = try_send_connection_event(trace1, answers, event);
-    let trace2 = sent.trace;
-    let answer2 = sent.answer;
-    let Delivered::Yes = answer2 else {
-        return Outcome::not(trace2, none, pairing_data, answer2.halt());
-    };
-    let tk = Word128 {
-        low: passkey.value() as u64,
-        high: 0,
-    };
-    let confirm_data = confirm_phase_data(tk, preq, pres);
-    Outcome::next(
-        trace2,
-        confirm_data,
-        pairing_data,
-        Phase::WaitingPairingConfirm,
-    )
+    let srand = ops.draw_nonce()?;
+    let sconfirm = confirm_value(machine, srand);
+    ops.try_send_packet(make_confirm_packet(sconfirm))?;
+    Ok(srand)
 }
 
-// Sconfirm = c1(TK, Srand, preq, pres, iat, ia, rat, ra) of a fresh Srand.
-pub fn send_sconfirm(
-    trace: Trace,
-    answers: &[u8],
-    confirm_data: ConfirmPhaseData,
-    pairing_data: PairingData,
-) -> ConfirmSent
-    ensures { SendsConfirm answers.now trace confirm_data pairing_data (send_sconfirm confirm_data pairing_data) result }
-{
-    let asked = draw_nonce(trace, answers);
-    let trace1 = asked.trace;
-    let answer1 = asked.answer;
-    let NonceAnswer::Nonce(local_nonce) = answer1 else {
-        let answer = Delivered::Not(Halt::Stop(answer1.stop()));
-        return ConfirmSent {
-            trace: trace1,
-            confirm_data,
-            answer,
-        };
-    };
-    let sconfirm = confirm_value(confirm_data, pairing_data, local_nonce);
-    let sent = try_send_packet(trace1, answers, make_confirm_packet(sconfirm));
-    let trace2 = sent.trace;
-    let answer2 = sent.answer;
-    let Delivered::Yes = answer2 else {
-        return ConfirmSent {
-            trace: trace2,
-            confirm_data,
-            answer: answer2,
-        };
-    };
-    ConfirmSent {
-        trace: trace2,
-        confirm_data: ConfirmPhaseData {
-            local_nonce,
-            ..confirm_data
-        },
-        answer: Delivered::Yes,
-    }
-}
-
-// Mrand is checked against Mconfirm before Srand goes out.
+// Mrand is checked against Mconfirm before Srand goes out; then encryption with the STK.
+#[tactic(auto, unfolding(protocol::specs::LegacyPeripheral::handle_pairing_random))]
 pub fn handle_pairing_random(
-    trace: Trace,
-    answers: &[u8],
-    confirm_data: ConfirmPhaseData,
-    pairing_data: PairingData,
+    ops: &mut Ops<'_>,
+    machine: &mut Machine,
     peer_confirm: Confirm,
     payload: &[u8],
-) -> Outcome
-    ensures { result ≡ outcome_of confirm_data pairing_data (run answers.now (handle_pairing_random confirm_data pairing_data peer_confirm payload.now) trace) }
+) -> Result<(), Halt>
+    ensures ran { ran_machine ops.new.trace machine.new result ≡ run ops.old.answers.now (handle_pairing_random machine.old.confirm_data machine.old.pairing_data peer_confirm payload.now) ops.old.trace }
+    ensures answers { ops.new.answers ≡ ops.old.answers }
+    ensures kept { OnErr result (machine.new ≡ machine.old) }
 {
-    let TryWord::Ok(word) = read_payload_word(payload) else {
-        let error = Error::Security(Reason::InvalidParameters);
-        return Outcome::failed(trace, confirm_data, pairing_data, error);
-    };
+    let word = read_payload_word(payload).ok_or(Error::Security(Reason::InvalidParameters))?;
     let peer_nonce = Nonce(word);
-    let expected_mconfirm = confirm_value(confirm_data, pairing_data, peer_nonce);
-    if expected_mconfirm.0.equals(peer_confirm.0) {
-        return send_srand(trace, answers, confirm_data, pairing_data, peer_nonce);
+    let expected_mconfirm = confirm_value(machine, peer_nonce);
+    if expected_mconfirm != peer_confirm {
+        return Err(Halt::Failed(Error::Security(Reason::ConfirmValueFailed)));
     }
-    let error = Error::Security(Reason::ConfirmValueFailed);
-    Outcome::failed(trace, confirm_data, pairing_data, error)
-}
-
-// Srand goes out, then encryption with the STK.
-fn send_srand(
-    trace: Trace,
-    answers: &[u8],
-    confirm_data: ConfirmPhaseData,
-    pairing_data: PairingData,
-    peer_nonce: Nonce,
-) -> Outcome
-    ensures { result ≡ outcome_of confirm_data pairing_data (run answers.now (on_mrand confirm_data pairing_data peer_nonce true) trace) }
-{
-    let local_nonce = confirm_data.local_nonce;
-    let sent = try_send_packet(trace, answers, make_pairing_random(local_nonce));
-    let trace1 = sent.trace;
-    let answer = sent.answer;
-    let Delivered::Yes = answer else {
-        return Outcome::not(trace1, confirm_data, pairing_data, answer.halt());
-    };
-    let stk = s1(confirm_data.tk, local_nonce, peer_nonce);
-    enable_encryption(trace1, answers, confirm_data, pairing_data, stk)
+    let local_nonce = machine.confirm_data.local_nonce;
+    ops.try_send_packet(make_pairing_random(local_nonce))?;
+    let stk = s1(machine.confirm_data.tk, local_nonce, peer_nonce);
+    enable_encryption(ops, machine, stk)
 }

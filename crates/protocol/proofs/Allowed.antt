@@ -1,14 +1,13 @@
 -- What the fair link allows, so that nothing is true of fair runs for want of them: there are fair starts at the ends of
 -- every range, any passkeys and OOB data, hosts that answer nothing, free answers, packets that come while a passkey is
 -- typed or OOB data is due, and events that are taken as soon as they are due. Assumes nothing.
+use Rattle.std.specs.Prelude.{Option, None, Ok}
 use mathlib.Core.Path.{◌≡◌, refl}
 use mathlib.Core.Bool.{Bool, true}
 use mathlib.Core.List.{List, [], ◌∷◌}
-use mathlib.Core.Option.{none}
 use Prim.Native.Nat.{ℕ, ◌≤◌}
 use lib.Dec.{lit≤}
 use native.Mathlib.Omega.{arith}
-use Rattle.octets.specs.declared.Word128.{Word128}
 use Rattle.crypto.specs.declared.crypto.IdentityResolvingKey.{IdentityResolvingKey}
 use Rattle.crypto.specs.declared.crypto.LongTermKey.{LongTermKey}
 use Rattle.crypto.specs.declared.crypto.Nonce.{Nonce}
@@ -18,11 +17,7 @@ use Rattle.types.specs.declared.types.UseOutOfBand.TheVariants.{NotPresent, Pres
 use Rattle.util.specs.Method.{BOTH_INPUT}
 use Rattle.bond.specs.declared.Address.{Address}
 use Rattle.bond.specs.declared.BondInformation.{BondInformation}
-use Rattle.bond.specs.declared.OptionBond.{OptionBond}
 use Rattle.answer.specs.Answers.{pass_key_max}
-use Rattle.answer.specs.declared.AddressResult.TheVariants as address-result
-use Rattle.answer.specs.declared.BondResult.TheVariants as bond-result
-use Rattle.answer.specs.declared.OptionBondResult.TheVariants as option-result
 use Rattle.machine.specs.declared.Event.TheVariants as event
 use Rattle.machine.specs.declared.Input.TheVariants as input
 use Rattle.machine.specs.declared.Machine.{Machine}
@@ -72,7 +67,7 @@ exchanged_start a b = fair_of_sizes 16 7 a b (lit≤ tt) (lit≤ tt) (lit≤ tt)
 -- ---- passkeys and OOB data
 
 -- whatever is typed or received, and whatever may be shown
-abbrev pub any_shared : (oob : Word128) (shown typed : ℕ) → shown ≤ pass_key_max → Shared
+abbrev pub any_shared : (oob : ℕ) (shown typed : ℕ) → shown ≤ pass_key_max → Shared
 any_shared oob shown typed most = record { oob = oob; shown = shown; typed = typed; shown_most = most }
 
 -- where both type, what is typed is free: any number
@@ -106,13 +101,13 @@ passkey_shown shared = refl
 pub record Free (shared : Shared) : Type 0 where
   pub flag : (x : Bool) → FairReply shared a_flag x
   pub irk : (x : IdentityResolvingKey) → FairReply shared an_irk x
-  pub address : (x : Address) → FairReply shared an_address (address-result.Ok x)
+  pub address : (x : Address) → FairReply shared an_address (Ok x)
   pub nonce : (x : Nonce) → FairReply shared a_nonce x
   pub ltk : (x : LongTermKey) → FairReply shared an_ltk x
   pub ediv : (x : ℕ) → FairReply shared an_ediv x
   pub rand : (x : ℕ) → FairReply shared a_rand x
-  pub bond : (x : BondInformation) → FairReply shared a_bond (bond-result.Ok x)
-  pub option_bond : (x : OptionBond) → FairReply shared an_option_bond (option-result.Ok x)
+  pub bond : (x : BondInformation) → FairReply shared a_bond (Ok x)
+  pub option_bond : (x : Option BondInformation) → FairReply shared an_option_bond (Ok x)
 
 pub free : (shared : Shared) → Free shared
 free shared =
@@ -134,14 +129,14 @@ module _ (shared : Shared) (r : Role) (L : Link) where
   -- a packet may come while a passkey is typed, or OOB data is due
   pub packet_while_typing :
       (p : QueuedPacket) (queue : List QueuedPacket) →
-      (end_of r L).open_step ≡ none → (end_of r L).queue ≡ p ∷ queue → (end_of r L).due ≡ pass_key ∷ [] →
+      (end_of r L).open_step ≡ None → (end_of r L).queue ≡ p ∷ queue → (end_of r L).due ≡ pass_key ∷ [] →
       (L₁ : Link) × Move shared L an_input L₁
   packet_while_typing p queue o q d =
       (_, take_packet r p queue [] o q (rw d refl) (no_answers shared r L (a_packet p)))
 
   pub packet_before_oob :
       (p : QueuedPacket) (queue : List QueuedPacket) →
-      (end_of r L).open_step ≡ none → (end_of r L).queue ≡ p ∷ queue → (end_of r L).due ≡ oob_data ∷ [] →
+      (end_of r L).open_step ≡ None → (end_of r L).queue ≡ p ∷ queue → (end_of r L).due ≡ oob_data ∷ [] →
       (L₁ : Link) × Move shared L an_input L₁
   packet_before_oob p queue o q d =
       (_, take_packet r p queue [] o q (rw d refl) (no_answers shared r L (a_packet p)))
@@ -155,7 +150,7 @@ may_take L Central encryption_on h = tt
 may_take L Peripheral e h = tt
 
 pub event_taken :
-    (shared : Shared) (r : Role) (L : Link) (e : Due) → (end_of r L).open_step ≡ none → (end_of r L).due ≡ e ∷ [] →
+    (shared : Shared) (r : Role) (L : Link) (e : Due) → (end_of r L).open_step ≡ None → (end_of r L).due ≡ e ∷ [] →
     (r ≡ Central → e ≡ oob_data → L.head.had_oob ≡ true) → (L₁ : Link) × Move shared L an_input L₁
 event_taken shared r L e o d h =
     (_, take_event r e [] [] [] o d (may_take L r e h) (no_answers shared r L (an_event e)))

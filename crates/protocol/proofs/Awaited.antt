@@ -1,12 +1,12 @@
 -- Inputs that no state awaits: a KeypressNotification, and passkey events where no passkey is typed. The transition gives
 -- the machine as it was given, in both roles. Assumes nothing.
+use Rattle.std.specs.Prelude.{Option}
 use Prim.Native.Nat.{ℕ}
 use mathlib.Core.Bool.{Bool, true, false, cond}
 use mathlib.Core.Path.{◌≡◌, refl, ◌∙◌}
 use mathlib.Core.List.{List}
 use lib.Dec.{eqb}
-use Rattle.octets.specs.declared.Word128.{Word128}
-use Rattle.machine.specs.declared.ConfirmBytes.{ConfirmBytes}
+use Rattle.crypto.specs.declared.crypto.Confirm.{Confirm}
 use Rattle.machine.specs.declared.Event.{Event}
 use Rattle.machine.specs.declared.Event.TheVariants as event
 use Rattle.machine.specs.declared.Input.{Input}
@@ -105,7 +105,7 @@ keypress_leaves r m payload =
 
 -- no passkey is awaited
 abbrev pub NotTyping : Phase → Type 0
-NotTyping p = (b : ConfirmBytes) → ¬ (p ≡ phase.WaitingPassKeyInput b)
+NotTyping p = (b : Option Confirm) → ¬ (p ≡ phase.WaitingPassKeyInput b)
 
 -- the passkey events that a state does not await: PassKeyConfirm in any, the others where no passkey is
 abbrev pub Unawaited : Event → Phase → Type 0
@@ -123,7 +123,7 @@ module _ (m : Machine) (payload : List ℕ) (e : Event) where
   record Passes : Type 0 where
     others : other ≡ ret (ok m)
     link : (p : Bool → Handler Machine) → on_link_encrypted (input.Event e) p other ≡ ret (ok m)
-    oob : (p : Word128 → Handler Machine) → on_oob_data (input.Event e) p other ≡ ret (ok m)
+    oob : (p : ℕ → Handler Machine) → on_oob_data (input.Event e) p other ≡ ret (ok m)
 
 passes : (m : Machine) (payload : List ℕ) (e : Event) (s : Phase) → Unawaited e s → Passes m payload e
 unfolding other_input
@@ -135,7 +135,7 @@ passes m payload (event.OobDataReceived w) s h = absurd h
 
 -- .. and where a passkey is awaited, so that it is PassKeyConfirm
 typing_passes :
-    (m : Machine) (payload : List ℕ) (e : Event) (b : ConfirmBytes) (p : ℕ → Handler Machine) (q : Handler Machine) →
+    (m : Machine) (payload : List ℕ) (e : Event) (b : Option Confirm) (p : ℕ → Handler Machine) (q : Handler Machine) →
     Unawaited e (phase.WaitingPassKeyInput b) →
     on_pass_key_input (input.Event e) p (on_pass_key_cancel (input.Event e) q (other_input m payload (input.Event e)))
     ≡ ret (ok m)

@@ -1,8 +1,8 @@
 -- Bounds of programs of host calls: how many calls, of how many octets together, and what a failure to deliver does; with
 -- the rules that carry them from the parts of a handler to the whole. Assumes nothing.
+use Rattle.std.specs.Prelude.{Option, Some, None, Result, Ok, Err}
 use Prim.Native.Nat.{ℕ, ◌-◌, ◌≤◌}
 use mathlib.Core.Bool.{Bool, true, false, cond}
-use mathlib.Core.Option.{Option, none, some}
 use mathlib.Core.Path.{◌≡◌, ap}
 use mathlib.Core.List.{List, []}
 use native.Mathlib.Omega.{arith}
@@ -10,18 +10,11 @@ use lib.ListN.{length, length-append}
 use Rattle.bond.specs.declared.Address.{Address}
 use Rattle.bond.specs.declared.BondInformation.{BondInformation}
 use Rattle.bond.specs.declared.Error.{Error}
-use Rattle.bond.specs.declared.OptionBond.{OptionBond}
 use Rattle.host.specs.Calls.{call_octets, calls_octets}
 use Rattle.host.specs.declared.call.Call.{Call}
 use Rattle.host.specs.declared.call.Call.TheVariants as call
 use Rattle.host.specs.declared.call.ConnectionEvent.{ConnectionEvent}
 use Rattle.host.specs.declared.call.ConnectionEvent.TheVariants as notice
-use Rattle.answer.specs.declared.AddressResult.{AddressResult}
-use Rattle.answer.specs.declared.AddressResult.TheVariants as address-result
-use Rattle.answer.specs.declared.BondResult.{BondResult}
-use Rattle.answer.specs.declared.BondResult.TheVariants as bond-result
-use Rattle.answer.specs.declared.OptionBondResult.{OptionBondResult}
-use Rattle.answer.specs.declared.OptionBondResult.TheVariants as option-result
 use Rattle.machine.specs.Machine.{no_confirm_data}
 use Rattle.machine.specs.declared.Machine.{Machine}
 use Rattle.machine.specs.declared.Phase.TheVariants as phase
@@ -180,8 +173,8 @@ keeps_then p f P Q n o n₁ o₁ h g w v =
 pub or_fail_then :
     {A C : Type 0} (P : C → Type 0) (f : A → Handler C) (n o : ℕ) (d : PairingData) (e : Error) (x : Option A) →
     ((a : A) → Keeps P n o (f a)) → Keeps P n o (bind (or_fail d e x) (on_try f))
-or_fail_then P f n o d e none v = tt
-or_fail_then P f n o d e (some a) v = v a
+or_fail_then P f n o d e None v = tt
+or_fail_then P f n o d e (Some a) v = v a
 
 -- .. behind a packet or an event that has to be delivered
 pub delivered_then :
@@ -197,21 +190,21 @@ delivered_last n o d (undelivered e) = tt
 -- .. behind an address or a bond that the host has to give
 pub address_then :
     {C : Type 0} (P : C → Type 0) (f : Address → Handler C) (n o : ℕ) (d : PairingData) →
-    ((a : Address) → Keeps P n o (f a)) → (x : AddressResult) → Keeps P n o (bind (on_address d x) (on_try f))
-address_then P f n o d v (address-result.Ok a) = v a
-address_then P f n o d v (address-result.Err e) = tt
+    ((a : Address) → Keeps P n o (f a)) → (x : Result Address Error) → Keeps P n o (bind (on_address d x) (on_try f))
+address_then P f n o d v (Ok a) = v a
+address_then P f n o d v (Err e) = tt
 
 pub bond_then :
     {C : Type 0} (P : C → Type 0) (f : BondInformation → Handler C) (n o : ℕ) (d : PairingData) →
-    ((b : BondInformation) → Keeps P n o (f b)) → (x : BondResult) → Keeps P n o (bind (on_bond d x) (on_try f))
-bond_then P f n o d v (bond-result.Ok b) = v b
-bond_then P f n o d v (bond-result.Err e) = tt
+    ((b : BondInformation) → Keeps P n o (f b)) → (x : Result BondInformation Error) → Keeps P n o (bind (on_bond d x) (on_try f))
+bond_then P f n o d v (Ok b) = v b
+bond_then P f n o d v (Err e) = tt
 
 pub option_bond_then :
-    {C : Type 0} (P : C → Type 0) (f : OptionBond → Handler C) (n o : ℕ) (d : PairingData) →
-    ((b : OptionBond) → Keeps P n o (f b)) → (x : OptionBondResult) → Keeps P n o (bind (on_option_bond d x) (on_try f))
-option_bond_then P f n o d v (option-result.Ok b) = v b
-option_bond_then P f n o d v (option-result.Err e) = tt
+    {C : Type 0} (P : C → Type 0) (f : Option BondInformation → Handler C) (n o : ℕ) (d : PairingData) →
+    ((b : Option BondInformation) → Keeps P n o (f b)) → (x : Result (Option BondInformation) Error) → Keeps P n o (bind (on_option_bond d x) (on_try f))
+option_bond_then P f n o d v (Ok b) = v b
+option_bond_then P f n o d v (Err e) = tt
 
 -- one of two handlers
 pub either_keeps :

@@ -1,12 +1,12 @@
 -- Bounds of the central: each of its functions, and so a transition, makes at most so many calls of at most so many
 -- octets, fails where a packet is not delivered, and gives a canonical machine. Assumes nothing.
+use Rattle.std.specs.Prelude.{Option, Some, None, eqb}
 use Prim.Native.Nat.{ℕ}
 use mathlib.Core.Bool.{Bool, true, false}
 use mathlib.Core.Path.{refl}
 use mathlib.Core.List.{List}
 use lib.Dec.{lit≤}
-use Rattle.octets.specs.Octets.{octets_of, same_word}
-use Rattle.octets.specs.declared.Word128.{Word128}
+use Rattle.octets.specs.Octets.{octets_of}
 use Rattle.crypto.specs.declared.crypto.Confirm.{Confirm}
 use Rattle.crypto.specs.declared.crypto.LongTermKey.{LongTermKey}
 use Rattle.crypto.specs.declared.crypto.Nonce.{Nonce}
@@ -15,9 +15,7 @@ use Rattle.util.specs.declared.util.PairingMethod.{PairingMethod}
 use Rattle.util.specs.declared.util.PairingMethod.TheVariants as method
 use Rattle.util.specs.declared.util.PassKeyEntryAction.TheVariants as action
 use Rattle.host.specs.Calls.{call_octets}
-use Rattle.machine.specs.Machine.{want_bonding, zero_word}
-use Rattle.machine.specs.declared.ConfirmBytes.{ConfirmBytes}
-use Rattle.machine.specs.declared.ConfirmBytes.TheVariants as stored
+use Rattle.machine.specs.Machine.{want_bonding}
 use Rattle.machine.specs.declared.ConfirmPhaseData.{ConfirmPhaseData}
 use Rattle.machine.specs.declared.Input.{Input}
 use Rattle.machine.specs.declared.Machine.{Machine}
@@ -83,12 +81,12 @@ peer_confirm_keeps c d payload =
     or_fail_then _ _ 1 17 d _ (word_in payload) (λ w. answer_confirm_keeps c d (record { 0 = w }))
 
 after_mconfirm_keeps :
-    (c : ConfirmPhaseData) (d : PairingData) (early : ConfirmBytes) → Keeps Enters 1 17 (after_mconfirm c d early)
-after_mconfirm_keeps c d (stored.Some confirm) = answer_confirm_keeps c d confirm
-after_mconfirm_keeps c d stored.None = record { of_role = tt; kept = refl }
+    (c : ConfirmPhaseData) (d : PairingData) (early : Option Confirm) → Keeps Enters 1 17 (after_mconfirm c d early)
+after_mconfirm_keeps c d (Some confirm) = answer_confirm_keeps c d confirm
+after_mconfirm_keeps c d None = record { of_role = tt; kept = refl }
 
 pass_key_input_keeps :
-    (c : ConfirmPhaseData) (d : PairingData) (n : ℕ) (early : ConfirmBytes) →
+    (c : ConfirmPhaseData) (d : PairingData) (n : ℕ) (early : Option Confirm) →
     Keeps Enters 3 35 (handle_pass_key_input c d n early)
 unfolding handle_pass_key_input
 pass_key_input_keeps c d n early =
@@ -97,7 +95,7 @@ pass_key_input_keeps c d n early =
     (λ c₂ u. after_mconfirm_keeps c₂ d early)
 
 begin_confirm_keeps :
-    (preq pres : List ℕ) (d : PairingData) (tk : Word128) → Keeps Enters 2 18 (begin_confirm preq pres d tk)
+    (preq pres : List ℕ) (d : PairingData) (tk : ℕ) → Keeps Enters 2 18 (begin_confirm preq pres d tk)
 unfolding begin_confirm
 begin_confirm_keeps preq pres d tk =
     let c = confirm_data tk preq pres in
@@ -119,8 +117,8 @@ begin_method_keeps preq pres d (method.PassKeyEntry action.Display peripheral) =
 begin_method_keeps preq pres d (method.PassKeyEntry action.Input peripheral) =
     (lit≤ tt, lit≤ tt, λ e. (d, refl), delivered_then _ _ _ _ d (record { of_role = tt; kept = refl }))
 begin_method_keeps preq pres d method.JustWorks =
-    keeps_more Enters Enters (begin_confirm preq pres d zero_word) 2 18 4 24 (λ m h. h) (lit≤ tt) (lit≤ tt)
-    (begin_confirm_keeps preq pres d zero_word)
+    keeps_more Enters Enters (begin_confirm preq pres d 0) 2 18 4 24 (λ m h. h) (lit≤ tt) (lit≤ tt)
+    (begin_confirm_keeps preq pres d 0)
 begin_method_keeps preq pres d method.NumericComparison = tt
 
 pairing_response_keeps :
@@ -143,7 +141,7 @@ pairing_random_keeps :
 unfolding handle_pairing_random
 pairing_random_keeps c d confirm payload =
     or_fail_then _ _ 1 19 d _ (word_in payload) (λ w.
-    on_srand_keeps c d (record { 0 = w }) (same_word (confirm_value c d (record { 0 = w })).0 confirm.0))
+    on_srand_keeps c d (record { 0 = w }) (eqb (confirm_value c d (record { 0 = w })).0 confirm.0))
 
 central_identification_keeps :
     (d : PairingData) (ltk : LongTermKey) (payload : List ℕ) →

@@ -1,15 +1,15 @@
 -- Document 01's "Corners of the machines", its answers where the Rust indexes beyond the payload, and that a Random is
 -- checked first, from the definitions of both roles. (Inputs that leave the state: Awaited and Leaving. Failures that do
 -- not matter: Limits.) Assumes nothing.
+use Rattle.std.specs.Prelude.{Option, Some}
 use Prim.Native.Nat.{ℕ, ◌<◌, ◌≤◌}
 use mathlib.Core.Path.{◌≡◌, refl}
 use mathlib.Core.Bool.{false}
 use mathlib.Core.List.{List, []}
-use mathlib.Core.Option.{some}
 use lib.Dec.{eqb}
 use lib.ListN.{length, get_or, take, drop}
 use borrow.Author.Tests.{eq-eqb, ne_eqb, lt-ltb, le-ltb}
-use Rattle.octets.specs.Octets.{from_octets, word_of, same_word}
+use Rattle.octets.specs.Octets.{from_octets, word_of}
 use Rattle.crypto.specs.declared.crypto.Confirm.{Confirm}
 use Rattle.crypto.specs.declared.crypto.LongTermKey.{LongTermKey}
 use Rattle.crypto.specs.declared.crypto.Nonce.{Nonce}
@@ -20,7 +20,6 @@ use Rattle.types.specs.declared.types.Reason.TheVariants as reason
 use Rattle.bond.specs.declared.Error.{Error}
 use Rattle.bond.specs.declared.Error.TheVariants.{Security, InvalidState, InvalidValue}
 use Rattle.host.specs.declared.call.Question.TheVariants as question
-use Rattle.machine.specs.declared.ConfirmBytes.{ConfirmBytes}
 use Rattle.machine.specs.declared.ConfirmPhaseData.{ConfirmPhaseData}
 use Rattle.machine.specs.declared.Event.TheVariants as event
 use Rattle.machine.specs.declared.Input.{Input}
@@ -46,7 +45,7 @@ module _ (c : ConfirmPhaseData) (d : PairingData) (payload : List ℕ) where
   -- ---- a Confirm of wrong length: InvalidValue in WaitingPassKeyInput, InvalidParameters in WaitingPairingConfirm
 
   pub confirm_while_typing :
-      (r : Role) (b : ConfirmBytes) → (length payload ≡ 16 → ⊥) →
+      (r : Role) (b : Option Confirm) → (length payload ≡ 16 → ⊥) →
       transition_of r (standing (phase.WaitingPassKeyInput b) c d) (received command.PairingConfirm) payload
       ≡ fail d InvalidValue
   unfolding central.transition peripheral.transition store_confirm_bytes word_in
@@ -69,7 +68,7 @@ module _ (c : ConfirmPhaseData) (d : PairingData) (payload : List ℕ) where
 
   pub random_not_agreeing :
       (r : Role) (confirm : Confirm) → length payload ≡ 16 →
-      same_word (confirm_value_of r (record { 0 = word_of payload })).0 confirm.0 ≡ false →
+      eqb (confirm_value_of r (record { 0 = word_of payload })).0 confirm.0 ≡ false →
       transition_of r (standing (phase.WaitingPairingRandom confirm) c d) (received command.PairingRandom) payload
       ≡ fail d (Security reason.ConfirmValueFailed)
   unfolding central.transition peripheral.transition central.handle_pairing_random
@@ -91,7 +90,7 @@ module _ (c : ConfirmPhaseData) (d : PairingData) (payload : List ℕ) where
   -- .. longer is read by its first 10
   pub identification_long :
       10 ≤ length payload →
-      identification_in payload ≡ some (from_octets (take 2 payload), from_octets (take 8 (drop 2 payload)))
+      identification_in payload ≡ Some (from_octets (take 2 payload), from_octets (take 8 (drop 2 payload)))
   unfolding identification_in
   identification_long h = rw (le-ltb (length payload) 10 h)
 

@@ -1,6 +1,7 @@
 -- Document 01's whole example, from the definition of a step: the passkey is awaited, and the passkey event is cancel.
 -- With no answers the step wants the answer to 0x20; with answer 20 00 it ends. In either role, on any list that is long
 -- enough. Assumes nothing.
+use Rattle.std.specs.Prelude.{Option}
 use Prim.Native.Nat.{ℕ, ◌≤◌}
 use mathlib.Core.Path.{◌≡◌, ap}
 use mathlib.Core.List.{List, [], ◌∷◌}
@@ -14,7 +15,7 @@ use Rattle.bond.specs.declared.Error.TheVariants.{Security}
 use Rattle.host.specs.Calls.{call_octets, calls_octets, longest}
 use Rattle.answer.specs.Answers.{body_at, verdict_at}
 use Rattle.machine.specs.Machine.{no_confirm_data}
-use Rattle.machine.specs.declared.ConfirmBytes.{ConfirmBytes}
+use Rattle.crypto.specs.declared.crypto.Confirm.{Confirm}
 use Rattle.machine.specs.declared.ConfirmPhaseData.{ConfirmPhaseData}
 use Rattle.machine.specs.declared.Event.TheVariants as event
 use Rattle.machine.specs.declared.Input.{Input}
@@ -31,7 +32,7 @@ use Rattle.protocol.specs.LegacyCentral as central
 use Rattle.protocol.specs.LegacyPeripheral as peripheral
 use Rattle.protocol.specs.Step.{play_of, Step, step}
 
-abbrev typing : ConfirmBytes → ConfirmPhaseData → PairingData → Machine
+abbrev typing : Option Confirm → ConfirmPhaseData → PairingData → Machine
 typing b c d = record { phase = phase.WaitingPassKeyInput b; confirm_data = c; pairing_data = d }
 
 abbrev entry_failed : PairingData → Machine
@@ -52,7 +53,7 @@ listed o m read list = record { stepped = record { outcome = o; machine = m; rea
 
 -- wants 0x20: list 20 01 01, written 3, read 0, the machine as it was
 pub example_wants :
-    (r : Role) (b : ConfirmBytes) (c : ConfirmPhaseData) (d : PairingData) (list : List ℕ) → longest ≤ length list →
+    (r : Role) (b : Option Confirm) (c : ConfirmPhaseData) (d : PairingData) (list : List ℕ) → longest ≤ length list →
     step r (typing b c d) cancel [] [] list
     ≡ listed outcome.Wants (typing b c d) 0 (0x20 ∷ 0x01 ∷ 0x01 ∷ drop 3 list)
 unfolding step play_of central.handle_input peripheral.handle_input central.transition peripheral.transition enter
@@ -64,7 +65,7 @@ example_wants Peripheral b c d list h =
 
 -- with answer 20 00 it ends in Error(PasskeyEntryFailed), read 2
 pub example_ends :
-    (r : Role) (b : ConfirmBytes) (c : ConfirmPhaseData) (d : PairingData) (list : List ℕ) → longest ≤ length list →
+    (r : Role) (b : Option Confirm) (c : ConfirmPhaseData) (d : PairingData) (list : List ℕ) → longest ≤ length list →
     step r (typing b c d) cancel [] (0x20 ∷ 0x00 ∷ []) list
     ≡ listed outcome.Ended (entry_failed d) 2 (0x20 ∷ 0x01 ∷ 0x01 ∷ drop 3 list)
 unfolding step play_of central.handle_input peripheral.handle_input central.transition peripheral.transition enter

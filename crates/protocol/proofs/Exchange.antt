@@ -1,12 +1,12 @@
 -- Two ends that exchange packets over a link, each by programs of host calls: protocols, what it is for an end to follow
 -- one, the rules by which that is shown, and what is on its way between two ends that follow the same. Nothing here, or
 -- in InStep, knows who the ends are or what they say. Assumes nothing.
+use Rattle.std.specs.Prelude.{Option, Some, None}
 use Prim.Native.Nat.{ℕ, zero, suc}
 use mathlib.Core.Path.{◌≡◌, refl, sym, subst}
 use mathlib.Core.Bool.{Bool, true, false}
 use mathlib.Core.List.{List, [], ◌∷◌, ◌++◌}
 use mathlib.Core.Logic.{◌⊎◌, inl, inr}
-use mathlib.Core.Option.{Option, none, some}
 use Rattle.protocol.specs.Program.{Prog, ret, ask, Taken, got, wants, refused, ended, wanting}
 use Rattle.protocol.specs.Program.{play}
 use Rattle.protocol.proofs.Programs.{Reads, rest, along}
@@ -63,9 +63,9 @@ pub data Never : Type 1 where
 abbrev pub never {ℓ} : {X : Type ℓ} → Never → X
 never n = elim n [ ]
 
-abbrev pub optional {ℓ} : {X : Type ℓ} → Option X → List X
-optional none = []
-optional (some x) = x ∷ []
+abbrev pub optional : {X : Type 0} → Option X → List X
+optional None = []
+optional (Some x) = x ∷ []
 
 abbrev pub Empty {ℓ} : {X : Type ℓ} → List X → Type 0
 Empty [] = Unit {0}
@@ -132,12 +132,12 @@ module _ (S : System) where
     a_signal : Item
 
   abbrev pub sent_item : Option Packet → Option Item
-  sent_item none = none
-  sent_item (some p) = some (a_packet p)
+  sent_item None = None
+  sent_item (Some p) = Some (a_packet p)
 
   abbrev pub signal_item : Bool → Option Item
-  signal_item true = some a_signal
-  signal_item false = none
+  signal_item true = Some a_signal
+  signal_item false = None
 
   -- ---- what is on its way is what the link holds, of which it keeps the order of packets alone
 
@@ -153,8 +153,8 @@ module _ (S : System) where
   pub held_sent :
       (o : Option Packet) (q : List Item) (w : List Packet) (n : ℕ) → Held q w n →
       Held (q ++ optional (sent_item o)) (w ++ optional o) n
-  held_sent none [] [] zero h = h
-  held_sent (some p) [] [] zero h = (refl, h)
+  held_sent None [] [] zero h = h
+  held_sent (Some p) [] [] zero h = (refl, h)
   held_sent o [] [] (suc n) h = absurd h
   held_sent o [] (p ∷ w) n h = absurd h
   held_sent o (a_packet p ∷ q) [] n h = absurd h
@@ -237,13 +237,13 @@ module _ (S : System) where
 
     -- an end puts something, or nothing, on its way: the protocol has it there, and X holds of what comes then
     abbrev pub Emits : Party → Option Item → Protocol → (Protocol → Type 1) → Type 1
-    Emits r none g X = X g
-    Emits r (some (a_packet p)) (message s D pk K) X = (o : Is r s) × (a : D) × (p ≡ pk a) × X (K a)
-    Emits r (some (a_packet p)) (signal s D pk K) X = Never
-    Emits r (some (a_packet p)) (finish F j) X = Never
-    Emits r (some a_signal) (message s D pk K) X = Never
-    Emits r (some a_signal) (signal s D pk K) X = (o : Is r s) × X (message (other s) D pk K)
-    Emits r (some a_signal) (finish F j) X = Never
+    Emits r None g X = X g
+    Emits r (Some (a_packet p)) (message s D pk K) X = (o : Is r s) × (a : D) × (p ≡ pk a) × X (K a)
+    Emits r (Some (a_packet p)) (signal s D pk K) X = Never
+    Emits r (Some (a_packet p)) (finish F j) X = Never
+    Emits r (Some a_signal) (message s D pk K) X = Never
+    Emits r (Some a_signal) (signal s D pk K) X = (o : Is r s) × X (message (other s) D pk K)
+    Emits r (Some a_signal) (finish F j) X = Never
 
     -- a packet of the other end, where the protocol has one
     abbrev pub Packets : (Protocol → Local → Program → Type 1) → Party → Protocol → Local → Machine → Type 1
@@ -303,7 +303,7 @@ module _ (S : System) where
     -- what is on its way from one end, item by item, leads the protocol on to where Y holds
     abbrev pub Along : Party → List Item → Protocol → (Protocol → Type 1) → Type 1
     Along r [] g Y = Y g
-    Along r (i ∷ q) g Y = Emits r (some i) g (λ g₁. Along r q g₁ Y)
+    Along r (i ∷ q) g Y = Emits r (Some i) g (λ g₁. Along r q g₁ Y)
 
     -- the end r is at g, what is on its way to it leads the other on from there, and nothing is on its way back
     abbrev pub Lags : Party → (to from : List Item) → (X Y : Protocol → Type 1) → Type 1
@@ -325,49 +325,49 @@ module _ (S : System) where
     emits_map :
         (r : Party) (o : Option Item) (g : Protocol) {X Y : Protocol → Type 1} → ((g₁ : Protocol) → X g₁ → Y g₁) →
         Emits r o g X → Emits r o g Y
-    emits_map r none g f h = f g h
-    emits_map r (some (a_packet p)) (message s D pk K) f h = (h.0, h.1, h.2, f (K h.1) h.3)
-    emits_map r (some (a_packet p)) (signal s D pk K) f h = h
-    emits_map r (some (a_packet p)) (finish F j) f h = h
-    emits_map r (some a_signal) (message s D pk K) f h = h
-    emits_map r (some a_signal) (signal s D pk K) f h = (h.0, f (message (other s) D pk K) h.1)
-    emits_map r (some a_signal) (finish F j) f h = h
+    emits_map r None g f h = f g h
+    emits_map r (Some (a_packet p)) (message s D pk K) f h = (h.0, h.1, h.2, f (K h.1) h.3)
+    emits_map r (Some (a_packet p)) (signal s D pk K) f h = h
+    emits_map r (Some (a_packet p)) (finish F j) f h = h
+    emits_map r (Some a_signal) (message s D pk K) f h = h
+    emits_map r (Some a_signal) (signal s D pk K) f h = (h.0, f (message (other s) D pk K) h.1)
+    emits_map r (Some a_signal) (finish F j) f h = h
 
     emits_end :
         (r : Party) (o : Option Item) (g : Protocol) (X : Protocol → Type 1) → Emits r o g X → (g₁ : Protocol) × X g₁
-    emits_end r none g X h = (g, h)
-    emits_end r (some (a_packet p)) (message s D pk K) X h = (K h.1, h.3)
-    emits_end r (some (a_packet p)) (signal s D pk K) X h = never h
-    emits_end r (some (a_packet p)) (finish F j) X h = never h
-    emits_end r (some a_signal) (message s D pk K) X h = never h
-    emits_end r (some a_signal) (signal s D pk K) X h = (message (other s) D pk K, h.1)
-    emits_end r (some a_signal) (finish F j) X h = never h
+    emits_end r None g X h = (g, h)
+    emits_end r (Some (a_packet p)) (message s D pk K) X h = (K h.1, h.3)
+    emits_end r (Some (a_packet p)) (signal s D pk K) X h = never h
+    emits_end r (Some (a_packet p)) (finish F j) X h = never h
+    emits_end r (Some a_signal) (message s D pk K) X h = never h
+    emits_end r (Some a_signal) (signal s D pk K) X h = (message (other s) D pk K, h.1)
+    emits_end r (Some a_signal) (finish F j) X h = never h
 
     along_map :
         (r : Party) (q : List Item) (g : Protocol) {X Y : Protocol → Type 1} → ((g₁ : Protocol) → X g₁ → Y g₁) →
         Along r q g X → Along r q g Y
     along_map r [] g f h = f g h
-    along_map r (i ∷ q) g f h = emits_map r (some i) g (λ g₁. along_map r q g₁ f) h
+    along_map r (i ∷ q) g f h = emits_map r (Some i) g (λ g₁. along_map r q g₁ f) h
 
     along_end :
         (r : Party) (q : List Item) (g : Protocol) (X : Protocol → Type 1) → Along r q g X → (g₁ : Protocol) × X g₁
     along_end r [] g X h = (g, h)
     along_end r (i ∷ q) g X h =
-        let z = emits_end r (some i) g (λ g₁. Along r q g₁ X) h in
+        let z = emits_end r (Some i) g (λ g₁. Along r q g₁ X) h in
         along_end r q z.0 X z.1
 
     -- what an end emits joins what is on its way
     along_emit :
         (r : Party) (o : Option Item) (q : List Item) (g : Protocol) (X : Protocol → Type 1) →
         Along r q g (λ g₁. Emits r o g₁ X) → Along r (q ++ optional o) g X
-    along_emit r none [] g X h = h
-    along_emit r (some i) [] g X h = h
-    along_emit r o (i ∷ q) g X h = emits_map r (some i) g (λ g₁. along_emit r o q g₁ X) h
+    along_emit r None [] g X h = h
+    along_emit r (Some i) [] g X h = h
+    along_emit r o (i ∷ q) g X h = emits_map r (Some i) g (λ g₁. along_emit r o q g₁ X) h
 
     -- where one end has something next, the other has not
     not_both :
         (r : Party) (i i₁ : Item) (g : Protocol) (X Y : Protocol → Type 1) →
-        Emits r (some i) g X → Emits (other r) (some i₁) g Y → ⊥
+        Emits r (Some i) g X → Emits (other r) (Some i₁) g Y → ⊥
     not_both r (a_packet p) (a_packet p₁) (message s D pk K) X Y h k = apart r s h.0 k.0
     not_both r (a_packet p) a_signal (message s D pk K) X Y h k = never k
     not_both r a_signal i₁ (message s D pk K) X Y h k = never h
@@ -394,10 +394,10 @@ module _ (S : System) where
     pub emit :
         (r : Party) (o : Option Item) (to from : List Item) (X Y : Protocol → Type 1) →
         Sync r to from (λ g. Emits r o g X) Y → Sync r to (from ++ optional o) X Y
-    emit r none to [] X Y (inl h) = inl h
+    emit r None to [] X Y (inl h) = inl h
     emit r o to (i ∷ from) X Y (inl h) = absurd h.1
-    emit r (some i) [] [] X Y (inl h) = inr (h.0, tt, h.3, subst (λ (p : Party). Emits p (some i) h.0 X) (sym (other_other r)) h.2)
-    emit r (some i) (i₁ ∷ to) [] X Y (inl h) =
+    emit r (Some i) [] [] X Y (inl h) = inr (h.0, tt, h.3, subst (λ (p : Party). Emits p (Some i) h.0 X) (sym (other_other r)) h.2)
+    emit r (Some i) (i₁ ∷ to) [] X Y (inl h) =
         absurd (not_both r i i₁ h.0 X (λ g. Along (other r) to g Y) h.2 h.3)
     emit r o to from X Y (inr h) =
         inr (h.0, h.1, h.2, rw other_other (along_emit r o from h.0 X (rw other_other at h.3)))
@@ -411,7 +411,7 @@ module _ {S : System} {Goal : S.Machine → Local S → S.Machine → Local S �
   -- a call that sends nothing
   pub quiet :
       {d : ℕ} {r : Party} {g : Protocol S Goal} {l : Local S} {c : Call} {k : Reply c → Program S} →
-      sent c ≡ none → ((x : Fair c) → Follows S Goal d r g (note S c l) (k (fairly c x))) →
+      sent c ≡ None → ((x : Fair c) → Follows S Goal d r g (note S c l) (k (fairly c x))) →
       Follows S Goal (suc d) r g l (ask c k)
   unfolding Fits
   quiet e h = record { fits = rw e (λ x. (h x).fits) }
@@ -420,7 +420,7 @@ module _ {S : System} {Goal : S.Machine → Local S → S.Machine → Local S �
   pub says :
       {d : ℕ} {r : Party} {D : Type 0} {pk : D → Packet} {K : D → Protocol S Goal} {l : Local S} {c : Call}
       {k : Reply c → Program S} (a : D) →
-      sent c ≡ some (pk a) → ((x : Fair c) → Follows S Goal d r (K a) (note S c l) (k (fairly c x))) →
+      sent c ≡ Some (pk a) → ((x : Fair c) → Follows S Goal d r (K a) (note S c l) (k (fairly c x))) →
       Follows S Goal (suc d) r (Protocol.message r D pk K) l (ask c k)
   unfolding Fits
   says {r = r} a e h = record { fits = rw e (itself r, a, refl, λ x. (h x).fits) }

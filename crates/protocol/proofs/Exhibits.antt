@@ -9,7 +9,7 @@ use native.Mathlib.Omega.{arith}
 use lib.Dec.{ltb, lit≤}
 use lib.ListN.{replicate}
 use borrow.Author.Tests.{ltb-true}
-use Rattle.octets.specs.Octets.{word_of, same_word}
+use Rattle.octets.specs.Octets.{word_of}
 use Rattle.types.specs.Types.{feature_octets, features_with, features_of}
 use Rattle.types.specs.declared.capabilities.IoCapabilities.{IoCapabilities}
 use Rattle.types.specs.declared.capabilities.IoCapabilities.TheVariants as io
@@ -148,7 +148,7 @@ first_step :
     (shared : Shared) (a b : Address) →
     (L : Link) × Move shared (fresh_link (start_of a b full full)) an_input L × (responses_in L.head.calls ≡ full ∷ [])
 unfolding fresh_link fresh_head new_machine step_at calls_at step play_of handle_input transition handle_pairing_request
-    features_in response_features initiator_keys responder_keys legacy_method body_at flag_at irk_at verdict_at features_of same_word
+    features_in response_features initiator_keys responder_keys legacy_method body_at flag_at irk_at verdict_at features_of
     word_of
 first_step shared a b = (
   _,
@@ -198,7 +198,7 @@ longest_of shared a b =
 -- ---- the three, with passkeys, OOB data and addresses given
 
 abbrev some_shared : Shared
-some_shared = any_shared (record { low = 0x0123456789ABCDEF; high = 0xFEDCBA9876543210 }) 123456 4000000000 (lit≤ tt)
+some_shared = any_shared 0xFEDCBA98765432100123456789ABCDEF 123456 4000000000 (lit≤ tt)
 
 abbrev terminal_at : Address
 terminal_at = record { kind = 0; addr = record { low = 0xA1A2A3A4; high = 0xA5A6 } }

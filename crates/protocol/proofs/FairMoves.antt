@@ -1,11 +1,11 @@
 -- Every move of the fair link keeps its two ends in step, and leaves less to do; and where they are in step some move is
 -- allowed, or all is over. Assumes nothing.
+use Rattle.std.specs.Prelude.{Option, Some, None}
 use Prim.Native.Nat.{ℕ, suc, ◌+◌, ◌≤◌, ◌<◌}
 use mathlib.Core.Path.{◌≡◌, refl, sym, ap, ◌∙◌, subst, subst₂, subst₃}
 use mathlib.Core.Bool.{Bool, true, false, not, ◌&&◌, true≢false}
 use mathlib.Core.List.{List, [], ◌∷◌, ◌++◌}
 use mathlib.Core.Logic.{◌⊎◌, inl, inr}
-use mathlib.Core.Option.{Option, none, some}
 use native.Mathlib.Omega.{arith}
 use lib.ListN.{length, drop}
 use Rattle.host.specs.declared.call.Call.{Call}
@@ -56,13 +56,13 @@ module _ (shared : Shared) (s : Start) where
   -- ---- what holds of an end besides
 
   abbrev KnownOpen : Option OpenStep → Type 0
-  KnownOpen none = Unit {0}
-  KnownOpen (some o) = KnownGiven o.given
+  KnownOpen None = Unit {0}
+  KnownOpen (Some o) = KnownGiven o.given
 
   -- an open step on OOB data has had it
   abbrev HadBy : Option OpenStep → Bool → Type 0
-  HadBy none had = Unit {0}
-  HadBy (some o) had = had_oob_after o.given had ≡ had
+  HadBy None had = Unit {0}
+  HadBy (Some o) had = had_oob_after o.given had ≡ had
 
   -- queued packets and the open step have codes of commands, and OOB data is had once
   pub record Sound (e : End) : Type 0 where
@@ -322,10 +322,10 @@ module _ (shared : Shared) (s : Start) where
 
     -- an end in no step, with these packets and signals, is in step with the other
     idle_in_step :
-        (p : Party) (queue : List QueuedPacket) (unused : ℕ) → (this p L).open_step ≡ none → (this p L).queue ≡ queue →
+        (p : Party) (queue : List QueuedPacket) (unused : ℕ) → (this p L).open_step ≡ None → (this p L).queue ≡ queue →
         unused_at p ≡ unused →
         InStep Ends Agrees p (own p d e) (own (other p) d e)
-        (side Ends Agrees (act_of shared s (this p L).machine none) (state_at p) queue unused) (side_there p)
+        (side Ends Agrees (act_of shared s (this p L).machine None) (state_at p) queue unused) (side_there p)
     idle_in_step p queue unused o q u =
         subst₃ (λ x w k. InStep Ends Agrees p (own p d e) (own (other p) d e)
         (side Ends Agrees (act_of shared s (this p L).machine x) (state_at p) w k) (side_there p)) o q u (in_step_lem p)
@@ -337,12 +337,12 @@ module _ (shared : Shared) (s : Start) where
 
     open_given :
         (x : End) (g : Given) (answers : List ℕ) → Sound x → x.open_step
-        ≡ some (record { given = g; answers = answers }) →
+        ≡ Some (record { given = g; answers = answers }) →
         KnownGiven g
     open_given x g answers k o = subst KnownOpen o k.opened
 
     packet_moved :
-        (p : Party) (x : QueuedPacket) (queue : List QueuedPacket) (answers : List ℕ) → (this p L).open_step ≡ none →
+        (p : Party) (x : QueuedPacket) (queue : List QueuedPacket) (answers : List ℕ) → (this p L).open_step ≡ None →
         (this p L).queue ≡ x ∷ queue → report_due (this p L).due ≡ false →
         FairHost shared (role_of p) L (a_packet x) answers →
         Fewer d e (suc n) (link_after shared (role_of p) L (a_packet x) answers queue (this p L).due
@@ -363,7 +363,7 @@ module _ (shared : Shared) (s : Start) where
         (side_there p) (unused_at p) x u (f.octets, f.fair) (idle_in_step p (x ∷ queue) (unused_at p) o q refl))
 
     module _ (p : Party) (ε : Due) (earlier later : List Due) (answers : List ℕ)
-        (o : (this p L).open_step ≡ none) (q : (this p L).due ≡ earlier ++ (ε ∷ later))
+        (o : (this p L).open_step ≡ None) (q : (this p L).due ≡ earlier ++ (ε ∷ later))
         (f : FairHost shared (role_of p) L (an_event ε) answers)
         (first : HeadFirst p (had_after p (an_event ε)) (that p L).had_oob)
       where
@@ -418,7 +418,7 @@ module _ (shared : Shared) (s : Start) where
 
     again_moved :
         (p : Party) (g : Given) (answers : List ℕ) (x : ℕ) (added : List ℕ) →
-        (this p L).open_step ≡ some (record { given = g; answers = answers }) →
+        (this p L).open_step ≡ Some (record { given = g; answers = answers }) →
         FairHost shared (role_of p) L g (answers ++ (x ∷ added)) →
         Fewer d e n (link_after shared (role_of p) L g (answers ++ (x ∷ added)) (this p L).queue (this p L).due
         (drop (length (calls_at shared (role_of p) L g answers))
@@ -493,13 +493,13 @@ module _ (shared : Shared) (s : Start) where
   IsIdle (Act.busy m i answers) = ⊥
 
   pub idle_none :
-      (m₀ m : Machine) (o : Option OpenStep) → act_of shared s m₀ o ≡ Act.idle m → o ≡ none
-  idle_none m₀ m none e = refl
-  idle_none m₀ m (some o) e = absurd (subst IsIdle (sym e) tt)
+      (m₀ m : Machine) (o : Option OpenStep) → act_of shared s m₀ o ≡ Act.idle m → o ≡ None
+  idle_none m₀ m None e = refl
+  idle_none m₀ m (Some o) e = absurd (subst IsIdle (sym e) tt)
 
   pub idle_machine : (m₀ m : Machine) (o : Option OpenStep) → act_of shared s m₀ o ≡ Act.idle m → m ≡ m₀
-  idle_machine m₀ m none e = cc
-  idle_machine m₀ m (some o) e = absurd (subst IsIdle (sym e) tt)
+  idle_machine m₀ m None e = cc
+  idle_machine m₀ m (Some o) e = absurd (subst IsIdle (sym e) tt)
 
   -- some move
   abbrev pub Moving : Link → Type 0
@@ -534,8 +534,8 @@ module _ (shared : Shared) (s : Start) where
 
     again_moves :
         (o : Option OpenStep) → (this p L).open_step ≡ o → OpenOf (act_of shared s (this p L).machine o) → Moving L
-    again_moves none q h = absurd h
-    again_moves (some o) q h =
+    again_moves None q h = absurd h
+    again_moves (Some o) q h =
         let m = (this p L).machine in
         let z = more_answers shared (handle_input_by_role (role_of p) m (input_of shared m o.given) (payload_of o.given))
         o.answers h.0 h.1 h.2 in

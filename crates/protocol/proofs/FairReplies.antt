@@ -1,19 +1,18 @@
 -- Fair replies as data: what a fair host's octets may say to a call, and that there is always something that they may
 -- say. Assumes nothing.
+use Rattle.std.specs.Prelude.{Option, Some, Ok, Err}
 use Prim.Native.Nat.{ℕ, ◌+◌, ◌<◌}
 use mathlib.Core.Path.{◌≡◌, refl, sym, ap, ◌∙◌, subst}
 use mathlib.Core.Bool.{Bool, true, false, cond}
-use mathlib.Core.Option.{some}
 use mathlib.Core.List.{List, [], ◌∷◌, ◌++◌, reverse, map}
 use native.Mathlib.Omega.{arith}
 use borrow.Author.Tests.{eqb-true, le-ltb}
 use lib.Dec.{eqb}
 use lib.ListN.{length, take, drop, length-append, length-drop}
 use lib.Seq.{length-take-le}
-use Rattle.octets.specs.declared.Word128.{Word128}
-use Rattle.octets.specs.Octets.{from_octets, to_octets, octets_of, word_of, word_be, same_word}
+use Rattle.octets.specs.Octets.{from_octets, to_octets, octets_of, word_of, word_be}
 use Rattle.octets.proofs.Octets.{Octets, octets_append, octets_reverse, octets_drop, octets_take}
-use Rattle.octets.proofs.Octets.{length_to, octets_to, from_to, to_from, word_low, word_high, word_back}
+use Rattle.octets.proofs.Octets.{length_to, octets_to, from_to, to_from, word_lt, word_back}
 use Rattle.crypto.specs.Crypto.{non_zero, drawn_nonce}
 use Rattle.crypto.specs.declared.crypto.IdentityResolvingKey.{IdentityResolvingKey}
 use Rattle.crypto.specs.declared.crypto.LongTermKey.{LongTermKey}
@@ -22,14 +21,10 @@ use Rattle.types.specs.declared.types.PassKey.{PassKey}
 use Rattle.bond.specs.Bond.{bond_of}
 use Rattle.bond.specs.declared.Address.{Address}
 use Rattle.bond.specs.declared.BondInformation.{BondInformation}
-use Rattle.bond.specs.declared.OptionBond.{OptionBond}
 use Rattle.host.specs.Calls.{kind_of, body_lengths, length_in}
 use Rattle.host.specs.declared.call.Call.{Call}
 use Rattle.host.proofs.Writing.{body_length_lem}
 use Rattle.answer.specs.Answers.{answer_length, found, pass_key_max}
-use Rattle.answer.specs.declared.AddressResult.TheVariants as address-result
-use Rattle.answer.specs.declared.BondResult.TheVariants as bond-result
-use Rattle.answer.specs.declared.OptionBondResult.TheVariants as option-result
 use Rattle.machine.specs.declared.Machine.{Machine}
 use Rattle.protocol.specs.Program.{ret, ask, got, wanting, play}
 use Rattle.protocol.specs.Ops.{delivered, Sort, a_verdict, a_flag, an_irk, an_address, a_nonce, a_pass_key, an_ltk}
@@ -43,7 +38,7 @@ use Rattle.protocol.proofs.Replies.{reply_new, reads}
 -- ---- what a fair host may say
 
 -- a word, or a number of n octets, that comes back from its octets: what is read of octets is such
-abbrev pub ReadBack : Word128 → Type 0
+abbrev pub ReadBack : ℕ → Type 0
 ReadBack w = word_of (octets_of w) ≡ w
 
 abbrev pub NumberBack : ℕ → ℕ → Type 0
@@ -61,32 +56,32 @@ FairData an_ltk = (k : LongTermKey) × ReadBack k.0
 FairData an_ediv = (n : ℕ) × NumberBack 2 n
 FairData a_rand = (n : ℕ) × NumberBack 8 n
 FairData a_bond = BondInformation
-FairData an_option_bond = OptionBond
+FairData an_option_bond = Option BondInformation
 
 -- .. and as a reply
 abbrev pub fairly : Shared → (sort : Sort) → FairData sort → Holds sort
 fairly shared a_verdict y = delivered
 fairly shared a_flag y = y
 fairly shared an_irk y = y
-fairly shared an_address y = address-result.Ok y
+fairly shared an_address y = Ok y
 fairly shared a_nonce y = y.0
 fairly shared a_pass_key y = record { 0 = shared.shown }
 fairly shared an_ltk y = y.0
 fairly shared an_ediv y = y.0
 fairly shared a_rand y = y.0
-fairly shared a_bond y = bond-result.Ok y
-fairly shared an_option_bond y = option-result.Ok y
+fairly shared a_bond y = Ok y
+fairly shared an_option_bond y = Ok y
 
 -- ---- what is read of octets comes back from its octets
 
 word_read_lem : (b : List ℕ) → Octets b → ReadBack (word_of b)
-word_read_lem b o = word_back (word_of b) (word_low b o) (word_high b o)
+word_read_lem b o = word_back (word_of b) (word_lt b o)
 
 nonce_read : (b : List ℕ) → Octets b → ReadBack (drawn_nonce b).0
 unfolding drawn_nonce non_zero word_be octets_of word_of
-nonce_read b o = go (same_word (word_be b) (record { low = 0; high = 0 }))
+nonce_read b o = go (eqb (word_be b) 0)
   where
-    go : (zeros : Bool) → ReadBack (cond zeros (record { low = 1; high = 0 }) (word_be b))
+    go : (zeros : Bool) → ReadBack (cond zeros 1 (word_be b))
     go true = refl
     go false = word_read_lem (reverse b) (octets_reverse b o)
 
@@ -103,8 +98,8 @@ meaning_fair : (shared : Shared) (sort : Sort) (b : List ℕ) (x : Holds sort) �
 meaning_fair shared a_verdict b x o l e f = (tt, f)
 meaning_fair shared a_flag b x o l e f = (x, refl)
 meaning_fair shared an_irk b x o l e f = (x, refl)
-meaning_fair shared an_address b (address-result.Ok a) o l e f = (a, refl)
-meaning_fair shared an_address b (address-result.Err r) o l e f = absurd f
+meaning_fair shared an_address b (Ok a) o l e f = (a, refl)
+meaning_fair shared an_address b (Err r) o l e f = absurd f
 meaning_fair shared a_nonce b x o l e f = ((x, said (λ y. ReadBack y.0) e (nonce_read b o)), refl)
 meaning_fair shared a_pass_key b x o l e f =
     let pass_key : ℕ → PassKey = λ n. record { 0 = n } in
@@ -112,10 +107,10 @@ meaning_fair shared a_pass_key b x o l e f =
 meaning_fair shared an_ltk b x o l e f = ((x, said (λ y. ReadBack y.0) e (word_read_lem b o)), refl)
 meaning_fair shared an_ediv b x o l e f = ((x, said (NumberBack 2) e (number_read 2 b o l)), refl)
 meaning_fair shared a_rand b x o l e f = ((x, said (NumberBack 8) e (number_read 8 b o l)), refl)
-meaning_fair shared a_bond b (bond-result.Ok a) o l e f = (a, refl)
-meaning_fair shared a_bond b (bond-result.Err r) o l e f = absurd f
-meaning_fair shared an_option_bond b (option-result.Ok a) o l e f = (a, refl)
-meaning_fair shared an_option_bond b (option-result.Err r) o l e f = absurd f
+meaning_fair shared a_bond b (Ok a) o l e f = (a, refl)
+meaning_fair shared a_bond b (Err r) o l e f = absurd f
+meaning_fair shared an_option_bond b (Ok a) o l e f = (a, refl)
+meaning_fair shared an_option_bond b (Err r) o l e f = absurd f
 
 pub fair_reply : (shared : Shared) (c : Call) (s : List ℕ) (at : ℕ) (x : Reply c) (n : ℕ) → AreOctets s
     → reply_at c s at ≡ got x n → FairReply shared (reply_sort c) x
@@ -182,13 +177,13 @@ answer_fair shared c s =
     (q.0, reply_new c s (fair_body shared sort) q.0 long q.1 ∙ ap (got q.0) end, q.2)
 
 -- the kinds of calls are octets
-kind_listed : (l : List (ℕ × ℕ)) (kind : ℕ) {n : ℕ} → AreOctets (map (λ x. x.0) l) → length_in l kind ≡ some n
+kind_listed : (l : List (ℕ × ℕ)) (kind : ℕ) {n : ℕ} → AreOctets (map (λ x. x.0) l) → length_in l kind ≡ Some n
     → kind < 256
 kind_listed [] kind o e = let z : ◌≡◌ {A = ℕ} 0 1 = cc in omega arith
 kind_listed (x ∷ l) kind {n} o e = go (kind_listed l kind o.1) (eqb kind x.0) refl e
   where
-    go : (length_in l kind ≡ some n → kind < 256)
-        → (same : Bool) → eqb kind x.0 ≡ same → cond same (some x.1) (length_in l kind) ≡ some n → kind < 256
+    go : (length_in l kind ≡ Some n → kind < 256)
+        → (same : Bool) → eqb kind x.0 ≡ same → cond same (Some x.1) (length_in l kind) ≡ Some n → kind < 256
     go rec true p q = omega (arith, eqb-true kind x.0 p, o.0)
     go rec false p q = rec q
 

@@ -1,10 +1,10 @@
 -- Demand 3: every fair run ends, and how. Assumes nothing.
+use Rattle.std.specs.Prelude.{Option, Some, None}
 use Prim.Native.Nat.{ℕ, zero, suc, ◌+◌, ◌≤◌}
 use mathlib.Core.Path.{◌≡◌, refl, sym, ap, ◌∙◌, subst, subst₂}
 use mathlib.Core.Bool.{Bool, true, false, cond}
 use mathlib.Core.List.{List, [], ◌∷◌, ◌++◌, append-nil, append_assoc}
 use mathlib.Core.Logic.{◌⊎◌, inl, inr}
-use mathlib.Core.Option.{Option, none, some}
 use native.Mathlib.Omega.{arith}
 use lib.ListN.{length, drop}
 use Rattle.types.specs.declared.types.Command.TheVariants as command
@@ -62,8 +62,8 @@ few_keys request answer = go (both_bond request answer)
 -- ---- where nothing is queued, due or open, no move is allowed
 
 abbrev IsNone : {X : Type 0} → Option X → Type 0
-IsNone none = Unit {0}
-IsNone (some x) = ⊥
+IsNone None = Unit {0}
+IsNone (Some x) = ⊥
 
 not_empty : {X : Type 0} (earlier later : List X) (x : X) → Empty (earlier ++ (x ∷ later)) → ⊥
 not_empty [] later x h = h

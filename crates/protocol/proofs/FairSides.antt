@@ -1,9 +1,9 @@
 -- The fair link as an exchange: each of its ends as a side, and what a step of an end does to both. Assumes nothing.
+use Rattle.std.specs.Prelude.{Option, Some, None}
 use Prim.Native.Nat.{ℕ, ◌+◌}
 use mathlib.Core.Path.{◌≡◌, refl, sym, ap, ◌∙◌, subst}
 use mathlib.Core.Bool.{Bool, true, false, cond, not, ◌&&◌, ◌||◌}
 use mathlib.Core.List.{List, [], ◌∷◌, ◌++◌, append-nil, append_assoc}
-use mathlib.Core.Option.{Option, none, some}
 use native.Mathlib.Omega.{arith}
 use lib.Dec.{eqb}
 use lib.ListN.{replicate}
@@ -117,8 +117,8 @@ module _ (shared : Shared) (s : Start) where
 
   -- its open step or none, as the act of a side
   abbrev pub act_of : Machine → Option OpenStep → Act Ends Agrees
-  act_of m none = Act.idle m
-  act_of m (some o) = Act.busy m o.given o.answers
+  act_of m None = Act.idle m
+  act_of m (Some o) = Act.busy m o.given o.answers
 
   -- with the inputs that it got, and the other end's signals not used
   abbrev pub side_of : (inputs unused : ℕ) → End → Side Ends Agrees

@@ -1,8 +1,8 @@
 -- Fresh machines are canonical, and the link moves: from every start the head may take the request, before its host has
 -- answered anything, and then wants the answer to its first call. Assumes nothing.
+use Rattle.std.specs.Prelude.{Some}
 use mathlib.Core.Path.{◌≡◌, refl}
 use mathlib.Core.List.{[], ◌∷◌}
-use mathlib.Core.Option.{some}
 use Rattle.answer.specs.Answers.{body_at, flag_at}
 use Rattle.host.specs.declared.call.Call.TheVariants as call
 use Rattle.host.specs.declared.call.Question.TheVariants as question
@@ -26,7 +26,7 @@ pub first_move :
     (shared : Shared) (s : Start) →
     (L : Link) × Move shared (fresh_link s) an_input L
     × (L.head.calls ≡ call.Ask question.FindBond ∷ [])
-    × (L.head.open_step ≡ some (record { given = a_packet (request_of s); answers = [] }))
+    × (L.head.open_step ≡ Some (record { given = a_packet (request_of s); answers = [] }))
     × (L.head.machine ≡ fresh_head s) × (L.head.queue ≡ [])
 unfolding fresh_link fresh_head new_machine step_at calls_at step play_of handle_input transition handle_pairing_request
     body_at flag_at

@@ -1,4 +1,5 @@
 -- Bounds of the parts that both roles have, and of entering a state. Assumes nothing.
+use Rattle.std.specs.Prelude.{Option, Some, None}
 use Prim.Native.Nat.{ℕ, ◌≤◌}
 use mathlib.Core.Bool.{Bool, true, false, cond}
 use mathlib.Core.Path.{refl, ap}
@@ -7,7 +8,6 @@ use lib.Dec.{eqb, lit≤}
 use lib.ListN.{length}
 use native.Mathlib.Omega.{arith}
 use Rattle.octets.specs.Octets.{octets_of}
-use Rattle.octets.specs.declared.Word128.{Word128}
 use Rattle.crypto.specs.declared.crypto.LongTermKey.{LongTermKey}
 use Rattle.types.specs.Types.{command_code}
 use Rattle.types.specs.declared.types.Command.{Command}
@@ -16,8 +16,6 @@ use Rattle.bond.specs.Bond.{bd_addr_octets, address_octets, bond_octets}
 use Rattle.bond.specs.declared.BondInformation.{BondInformation}
 use Rattle.bond.specs.declared.Error.{Error}
 use Rattle.bond.specs.declared.Error.TheVariants.{InvalidValue}
-use Rattle.bond.specs.declared.OptionBond.{OptionBond}
-use Rattle.bond.specs.declared.OptionBond.TheVariants as option
 use Rattle.host.specs.Calls.{call_octets}
 use Rattle.host.specs.declared.call.Call.{Call}
 use Rattle.host.specs.declared.call.Call.TheVariants as call
@@ -184,7 +182,7 @@ module _ {A : Type 0} (P : A → Type 0) where
   on_pass_key_cancel_lem (input.Event (event.PassKeyInput n)) p q h g = g
   on_pass_key_cancel_lem (input.Event (event.OobDataReceived w)) p q h g = g
 
-  pub on_oob_data_lem : (i : Input) (p : Word128 → A) (q : A) → ((w : Word128) → P (p w)) → P q → P (on_oob_data i p q)
+  pub on_oob_data_lem : (i : Input) (p : ℕ → A) (q : A) → ((w : ℕ) → P (p w)) → P q → P (on_oob_data i p q)
   on_oob_data_lem (input.Command code) p q h g = g
   on_oob_data_lem (input.Event (event.LinkEncryptedResult b)) p q h g = g
   on_oob_data_lem (input.Event event.PassKeyConfirm) p q h g = g
@@ -217,9 +215,9 @@ enter_within P m h = at m.phase
     bonded b true = (lit≤ tt, lit≤ tt, λ x y. refl, λ x. (lit≤ tt, lit≤ tt, λ y z. refl, λ y. h))
     bonded b false = (lit≤ tt, lit≤ tt, λ x y. refl, λ x. h)
 
-    success : (b : OptionBond) → Within Broken P 2 106 (enter_success m b)
-    success (option.Some b) = bonded b (want_bonding m.pairing_data)
-    success option.None = h
+    success : (b : Option BondInformation) → Within Broken P 2 106 (enter_success m b)
+    success (Some b) = bonded b (want_bonding m.pairing_data)
+    success None = h
 
     at : (p : Phase) → Within Broken P 2 106 (enter_phase m p)
     at (phase.Error e) = (lit≤ tt, short e, λ x y. refl, λ x. h)

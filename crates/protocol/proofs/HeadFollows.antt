@@ -1,15 +1,14 @@
 -- The head does what the protocol of pairing says, from a fair start. Its stages stand last first, as each leads to one
 -- above it. Before a stage n inputs were got; its calls and inputs are counted, and d are to spare. Assumes nothing.
+use Rattle.std.specs.Prelude.{Option, Some, None}
 use Prim.Native.Nat.{ℕ, suc, ◌+◌, ◌*◌}
 use mathlib.Core.Path.{◌≡◌, refl, subst}
 use mathlib.Core.Bool.{Bool, true, false, cond, and_comm}
 use mathlib.Core.List.{List, [], ◌∷◌}
-use mathlib.Core.Option.{Option, none, some}
 use native.Mathlib.Omega.{arith}
 use lib.ListN.{length}
 use Rattle.octets.specs.Octets.{octets_of, word_of}
-use Rattle.octets.specs.declared.Word128.{Word128}
-use Rattle.octets.proofs.Octets.{same_refl}
+use Rattle.octets.proofs.Octets.{same_number}
 use Rattle.crypto.specs.declared.crypto.Nonce.{Nonce}
 use Rattle.crypto.proofs.Bounds.{c1_back}
 use Rattle.util.specs.declared.util.PairingMethod.{PairingMethod}
@@ -18,12 +17,9 @@ use Rattle.util.specs.declared.util.PassKeyEntryAction.TheVariants as action
 use Rattle.util.proofs.Choice.{never_numeric}
 use Rattle.bond.specs.declared.Address.{Address}
 use Rattle.bond.specs.declared.BondInformation.{BondInformation}
-use Rattle.bond.specs.declared.OptionBond.{OptionBond}
-use Rattle.bond.specs.declared.OptionBond.TheVariants as option
 use Rattle.host.specs.declared.call.Packet.TheVariants as packet
 use Rattle.host.specs.declared.call.Question.TheVariants as question
-use Rattle.machine.specs.Machine.{no_confirm_data, new_machine, want_bonding, wishes, zero_word}
-use Rattle.machine.specs.declared.ConfirmBytes.TheVariants as stored
+use Rattle.machine.specs.Machine.{no_confirm_data, new_machine, want_bonding, wishes}
 use Rattle.machine.specs.declared.ConfirmPhaseData.{ConfirmPhaseData}
 use Rattle.machine.specs.declared.Machine.{Machine}
 use Rattle.machine.specs.declared.PairingData.{PairingData}
@@ -62,13 +58,13 @@ use Rattle.protocol.proofs.Pairing.{whole_exchange}
 -- ---- the excepted case
 
 -- 16 octets are a word
-word_of_16 : (payload : List ℕ) → length payload ≡ 16 → word_in payload ≡ some (word_of payload)
+word_of_16 : (payload : List ℕ) → length payload ≡ 16 → word_in payload ≡ Some (word_of payload)
 unfolding word_in
 word_of_16 payload long = rw long
 
 -- a head that awaits an IRK reads one of 16 octets, and its bond then has it
 waits_for_identity :
-    (d : PairingData) (b : BondInformation) → d.bond_information ≡ option.Some b →
+    (d : PairingData) (b : BondInformation) → d.bond_information ≡ Some b →
     WaitsForIdentityKey (enters phase.WaitingIdentitityInformation no_confirm_data d)
 unfolding step play_of handle_input transition handle_identity_information enter with_irk
 waits_for_identity d b e =
@@ -81,7 +77,7 @@ waits_for_identity d b e =
 
 module _ (shared : Shared) (s : Start) (a : Answer s) where
   -- the head's data, with a bond or none
-  abbrev head_data : OptionBond → PairingData
+  abbrev head_data : Option BondInformation → PairingData
   head_data bond =
       record {
         local_address = s.head_address;
@@ -116,7 +112,7 @@ module _ (shared : Shared) (s : Start) (a : Answer s) where
     encrypted_with keys due n = having shared entry true (e ∷ []) (a.features ∷ []) keys due n
 
     abbrev encrypted : List Due → ℕ → Local (pairing shared)
-    encrypted due n = encrypted_with none due n
+    encrypted due n = encrypted_with None due n
 
     module _ (ends : excepted s.request a.features ≡ false) where
       module _ (x : Option SentKeys) (due : SentIfClaimed s a x) where
@@ -124,12 +120,12 @@ module _ (shared : Shared) (s : Start) (a : Answer s) where
         enters_success :
             (d n : ℕ) (peer : Address) (b : BondInformation) → Keeps s a x b → n ≡ inputs_of_head s a →
             HeadFollows shared s (plus 3 d) (ending shared s a e x due) (encrypted_with x [] n)
-            (enter (enters phase.Success no_confirm_data (with_peer_address peer (head_data (option.Some b)))))
+            (enter (enters phase.Success no_confirm_data (with_peer_address peer (head_data (Some b)))))
         unfolding enter
         enters_success d n peer b k all = go (want_bonding m.pairing_data)
           where
             m : Machine
-            m = enters phase.Success no_confirm_data (with_peer_address peer (head_data (option.Some b)))
+            m = enters phase.Success no_confirm_data (with_peer_address peer (head_data (Some b)))
 
             done : HeadDone shared s a e x m (encrypted_with x [] n)
             done =
@@ -154,7 +150,7 @@ module _ (shared : Shared) (s : Start) (a : Answer s) where
             (d n : ℕ) (b : BondInformation) → Keeps s a x b →
             (named : Bool) → n + 2 * count_named named ≡ inputs_of_head s a →
             HeadFollows shared s (plus 5 d) (identity_key shared s a opener named (ending shared s a e x due))
-            (encrypted_with x [] n) (bind (await_identity_or_succeed (head_data (option.Some b)) named) entered)
+            (encrypted_with x [] n) (bind (await_identity_or_succeed (head_data (Some b)) named) entered)
         unfolding await_identity_or_succeed enter handle_input transition handle_identity_information with_irk
             handle_identity_address_information with_identity_address
         awaits_identity d n b k true all =
@@ -171,7 +167,7 @@ module _ (shared : Shared) (s : Start) (a : Answer s) where
             (terminal_encryption shared s a named
             (identity_key shared s a opener (names_identity_key s.request.initiator_key_distribution)
             (ending shared s a e x due)))
-            (encrypted_with x [] n) (bind (await_keys (head_data (option.Some b)) named) entered)
+            (encrypted_with x [] n) (bind (await_keys (head_data (Some b)) named) entered)
         unfolding await_keys enter handle_input transition handle_encryption_information
             handle_central_identification
         awaits_keys d n b k true all =
@@ -186,7 +182,7 @@ module _ (shared : Shared) (s : Start) (a : Answer s) where
             n + 2 * keys_awaited (names_encryption_key s.request.initiator_key_distribution) ≡ inputs_of_head s a →
             (named : Bool) →
             HeadFollows shared s (plus 11 d) (identity_key shared s a replier named (terminal_keys shared s a e x due))
-            (encrypted_with x [] n) (bind (from_identity (head_data (option.Some b)) named) entered)
+            (encrypted_with x [] n) (bind (from_identity (head_data (Some b)) named) entered)
         unfolding send_identity_key
         sends_identity d n b k all true =
             quiet refl λ irk. says irk refl λ u. quiet refl λ address. says address refl λ v. awaits_keys d n b k _ all
@@ -198,19 +194,19 @@ module _ (shared : Shared) (s : Start) (a : Answer s) where
           n + 2 * keys_awaited (names_encryption_key s.request.initiator_key_distribution) ≡ inputs_of_head s a →
           (named : Bool) (p : names_encryption_key a.features.responder_key_distribution ≡ named) →
           HeadFollows shared s (plus 16 d) (head_keys shared s a e named p) (encrypted [] n)
-          (bind (from_encryption (head_data (option.Some b)) named) entered)
+          (bind (from_encryption (head_data (Some b)) named) entered)
       unfolding send_encryption_key with_keys negotiated_key_size
       sends_keys d n b all true p =
           quiet refl λ ltk. quiet refl λ ediv. quiet refl λ rand. says ltk refl λ u. says (ediv, rand) refl λ v.
-          sends_identity (some (sent_keys ltk.0 ediv.0 rand.0)) _ d n _ (refl, refl, refl) all _
-      sends_keys d n b all false p = sends_identity none _ (plus 5 d) n b tt all _
+          sends_identity (Some (sent_keys ltk.0 ediv.0 rand.0)) _ d n _ (refl, refl, refl) all _
+      sends_keys d n b all false p = sends_identity None _ (plus 5 d) n b tt all _
 
     -- where not both bond no key is sent: where the request names the terminal's identity key, the head waits for it
     sends_none :
-        (d n : ℕ) (b : BondInformation) (due : SentIfClaimed s a none) → both s a ≡ false → n ≡ inputs_of_head s a →
+        (d n : ℕ) (b : BondInformation) (due : SentIfClaimed s a None) → both s a ≡ false → n ≡ inputs_of_head s a →
         (named : Bool) → names_identity_key s.request.initiator_key_distribution ≡ named →
-        HeadFollows shared s (plus 3 d) (ending shared s a e none due) (encrypted [] n)
-        (bind (await_identity_or_succeed (head_data (option.Some b)) named) entered)
+        HeadFollows shared s (plus 3 d) (ending shared s a e None due) (encrypted [] n)
+        (bind (await_identity_or_succeed (head_data (Some b)) named) entered)
     unfolding await_identity_or_succeed enter
     sends_none d n b due p all true q =
         finished
@@ -218,20 +214,20 @@ module _ (shared : Shared) (s : Start) (a : Answer s) where
           responds = refl;
           encrypts = refl;
           inputs = all;
-          ends = rw (p, q) (waits_for_identity (head_data (option.Some b)) b refl);
+          ends = rw (p, q) (waits_for_identity (head_data (Some b)) b refl);
           stored = (b, refl, tt);
           sent_ltk = refl;
           sent_identification = refl;
           displays = entry.as_shown;
         })
-    sends_none d n b due p all false q = enters_success (rw (p, q)) none due d n _ b tt all
+    sends_none d n b due p all false q = enters_success (rw (p, q)) None due d n _ b tt all
 
     -- the link is encrypted: the keys, where both bond
     sends_what_is_due :
         (d n : ℕ) (b : BondInformation) → n ≡ 4 + head_entries (chosen s a) →
         (bonds : Bool) (p : both s a ≡ bonds) →
         HeadFollows shared s (plus 16 d) (after_srand shared s a e bonds p) (encrypted [] n)
-        (bind (send_keys_or_await_identity (head_data (option.Some b)) bonds) entered)
+        (bind (send_keys_or_await_identity (head_data (Some b)) bonds) entered)
     unfolding send_keys_or_await_identity send_all_keys
     sends_what_is_due d n b all true p =
         sends_keys (rw p) d n b (rw (p, a.encryption, a.identity) (omega arith)) _ refl
@@ -242,29 +238,29 @@ module _ (shared : Shared) (s : Start) (a : Answer s) where
         (d n : ℕ) (b : BondInformation) → n ≡ 3 + head_entries (chosen s a) →
         HeadFollows shared s (plus 17 d) (after_srand shared s a e (both s a) refl)
         (encrypted (encryption_on ∷ []) n)
-        (ret (enters phase.WaitingLinkEncrypted no_confirm_data (head_data (option.Some b))))
+        (ret (enters phase.WaitingLinkEncrypted no_confirm_data (head_data (Some b))))
     unfolding handle_input transition handle_link_encrypted_success want_bonding
     takes_report d n b all =
         urgently refl refl refl
         (subst
         (λ bonds. HeadFollows shared s (plus 16 d) (after_srand shared s a e (both s a) refl)
-        (encrypted [] (suc n)) (bind (send_keys_or_await_identity (head_data (option.Some b)) bonds) entered))
+        (encrypted [] (suc n)) (bind (send_keys_or_await_identity (head_data (Some b)) bonds) entered))
         (and_comm (wishes s.request) (wishes a.features))
         (sends_what_is_due d (suc n) b (omega arith) _ refl))
 
   -- ---- before that: confirm values and nonces
 
   abbrev unencrypted : {way : PairingMethod} → Entry shared Peripheral way → List Due → ℕ → Local (pairing shared)
-  unencrypted entry due n = having shared entry false [] (a.features ∷ []) none due n
+  unencrypted entry due n = having shared entry false [] (a.features ∷ []) None due n
 
   -- the confirm data with a temporary key
-  abbrev keyed : Word128 → ConfirmPhaseData
+  abbrev keyed : ℕ → ConfirmPhaseData
   keyed tk = confirm_data tk (preq s a) (pres s a)
 
   -- c1 as the head computes it is c1 as the protocol has it
   confirm_value_lem :
       (srand r : Nonce) →
-      confirm_value (with_nonce (keyed (tk_of shared (chosen s a))) srand) (head_data option.None) r
+      confirm_value (with_nonce (keyed (tk_of shared (chosen s a))) srand) (head_data None) r
       ≡ confirm_of shared s a r
   unfolding confirm_value
   confirm_value_lem srand r = refl
@@ -275,36 +271,36 @@ module _ (shared : Shared) (s : Start) (a : Answer s) where
       n ≡ 2 + head_entries (chosen s a) →
       HeadFollows shared s (plus 20 d) (after_sconfirm shared s a mrand.0 srand) (unencrypted entry [] n)
       (ret (enters (phase.WaitingPairingRandom (confirm_of shared s a mrand.0))
-      (with_nonce (keyed (tk_of shared (chosen s a))) srand) (head_data option.None)))
+      (with_nonce (keyed (tk_of shared (chosen s a))) srand) (head_data None)))
   unfolding handle_input transition handle_pairing_random enable_encryption negotiated_key_size enter
   takes_mrand d n entry mrand srand all =
-      takes λ u. rw (word_in_lem mrand.0.0 mrand.1, confirm_value_lem srand mrand.0, same_refl)
+      takes λ u. rw (word_in_lem mrand.0.0 mrand.1, confirm_value_lem srand mrand.0, same_number)
       (says tt refl λ v. quiet refl λ b. takes_report _ entry d (suc n) b (omega arith))
 
   -- Sconfirm goes out, where the temporary key is the method's
   sends_sconfirm :
-      (d n : ℕ) (entry : Entry shared Peripheral (chosen s a)) (mrand : FairData a_nonce) (tk : Word128) →
+      (d n : ℕ) (entry : Entry shared Peripheral (chosen s a)) (mrand : FairData a_nonce) (tk : ℕ) →
       n ≡ 2 + head_entries (chosen s a) → tk_of shared (chosen s a) ≡ tk →
       HeadFollows shared s (plus 22 d) (after_mconfirm shared s a mrand) (unencrypted entry [] n)
-      (bind (answer_confirm (keyed tk) (head_data option.None) (confirm_of shared s a mrand.0)) entered)
+      (bind (answer_confirm (keyed tk) (head_data None) (confirm_of shared s a mrand.0)) entered)
   unfolding send_sconfirm confirm_value enter
   sends_sconfirm d n entry mrand tk all e =
       subst
       (λ t. HeadFollows shared s (plus 22 d) (after_mconfirm shared s a mrand) (unencrypted entry [] n)
-      (bind (answer_confirm (keyed t) (head_data option.None) (confirm_of shared s a mrand.0)) entered))
+      (bind (answer_confirm (keyed t) (head_data None) (confirm_of shared s a mrand.0)) entered))
       e
       (quiet refl λ srand. says srand refl λ u. takes_mrand d n entry mrand srand.0 all)
 
   -- a confirm value is read as it was sent
-  confirm_in_lem : (r : Nonce) → word_in (octets_of (confirm_of shared s a r).0) ≡ some (confirm_of shared s a r).0
+  confirm_in_lem : (r : Nonce) → word_in (octets_of (confirm_of shared s a r).0) ≡ Some (confirm_of shared s a r).0
   confirm_in_lem r = word_in_lem (confirm_of shared s a r).0 (c1_back _ r _ _ _ _ _ _)
 
   -- Mconfirm is answered at once, where the temporary key is there
   takes_mconfirm :
-      (d n : ℕ) (entry : Entry shared Peripheral (chosen s a)) (tk : Word128) → n ≡ 1 + head_entries (chosen s a) →
+      (d n : ℕ) (entry : Entry shared Peripheral (chosen s a)) (tk : ℕ) → n ≡ 1 + head_entries (chosen s a) →
       tk_of shared (chosen s a) ≡ tk →
       HeadFollows shared s (plus 23 d) (confirms shared s a) (unencrypted entry [] n)
-      (ret (enters phase.WaitingPairingConfirm (keyed tk) (head_data option.None)))
+      (ret (enters phase.WaitingPairingConfirm (keyed tk) (head_data None)))
   unfolding handle_input transition handle_peer_confirm
   takes_mconfirm d n entry tk all e =
       takes λ mrand. rw (confirm_in_lem mrand.0) (sends_sconfirm d (suc n) entry mrand tk (omega arith) e)
@@ -314,7 +310,7 @@ module _ (shared : Shared) (s : Start) (a : Answer s) where
       (d : ℕ) (none-shown : [] ≡ shown_at Peripheral (chosen s a) shared.shown) → head_entries (chosen s a) ≡ 1 →
       tk_of shared (chosen s a) ≡ pass_key_tk (cond (shows (chosen s a)) shared.shown shared.typed) →
       HeadFollows shared s (plus 24 d) (confirms shared s a) (unencrypted {way = chosen s a} (typed_entry shared none-shown) (pass_key ∷ []) 1)
-      (ret (enters (phase.WaitingPassKeyInput stored.None) (keyed zero_word) (head_data option.None)))
+      (ret (enters (phase.WaitingPassKeyInput None) (keyed 0) (head_data None)))
   unfolding handle_input transition handle_pass_key_input store_confirm_bytes enter
   takes_passkey d none-shown one e =
       either refl refl refl (takes_mconfirm d 2 (typed_entry shared none-shown) _ (omega arith) e)
@@ -325,7 +321,7 @@ module _ (shared : Shared) (s : Start) (a : Answer s) where
   begins_method :
       (d : ℕ) (m : PairingMethod) → chosen s a ≡ m →
       HeadFollows shared s (plus 25 d) (after_response shared s a m) (unencrypted (unchosen shared Peripheral) [] 1)
-      (bind (begin_method (preq s a) (pres s a) (head_data option.None) m) entered)
+      (bind (begin_method (preq s a) (pres s a) (head_data None) m) entered)
   unfolding begin_method enter handle_input transition
   begins_method d method.JustWorks e = takes_mconfirm (plus 2 d) 1 (no_entry shared (rw e)) _ (rw e) (rw e)
   begins_method d method.NumericComparison e = absurd (never_numeric s.request a.features e)
@@ -358,8 +354,8 @@ module _ (shared : Shared) (s : Start) (fair : FairStart s) where
     bonding ← asked question.BondingFlag
     available ← asked question.OobAvailable
     let a = answer_by offered bonding available
-    send_packet (head_data shared s a option.None) (packet.PairingResponse a.features)
-    begin_method (preq s a) (pres s a) (head_data shared s a option.None) (chosen s a)
+    send_packet (head_data shared s a None) (packet.PairingResponse a.features)
+    begin_method (preq s a) (pres s a) (head_data shared s a None) (chosen s a)
 
   -- .. before that, where the request names that key or not ..
   abbrev from_named : (named : Bool) → Handler Machine
@@ -374,7 +370,7 @@ module _ (shared : Shared) (s : Start) (fair : FairStart s) where
     from_named named
 
   abbrev requested : Local (pairing shared)
-  requested = having shared (unchosen shared Peripheral) false [] [] none [] 1
+  requested = having shared (unchosen shared Peripheral) false [] [] None [] 1
 
   -- the response is sent
   sends_response :
@@ -402,7 +398,7 @@ module _ (shared : Shared) (s : Start) (fair : FairStart s) where
 pub head_follows :
     (shared : Shared) (s : Start) (d : ℕ) → FairStart s →
     HeadFollows shared s (plus 32 d) (whole_exchange shared s)
-    (having shared (unchosen shared Peripheral) false [] [] none [] 0)
+    (having shared (unchosen shared Peripheral) false [] [] None [] 0)
     (ret (fresh_head s))
 unfolding fresh_head new_machine handle_input transition handle_pairing_request answer_by
 head_follows shared s d fair =

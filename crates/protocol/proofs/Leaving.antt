@@ -13,7 +13,7 @@ use Rattle.protocol.specs.Program.{play, bind, ret}
 use Rattle.protocol.specs.Handlers.{Handler, ok, entered, enter}
 use Rattle.protocol.specs.LegacyCentral as central
 use Rattle.protocol.specs.LegacyPeripheral as peripheral
-use Rattle.protocol.specs.Step.{handle_input_by_role, play_of, stepped, step}
+use Rattle.protocol.specs.Step.{handle_input_by_role, play_of, step}
 use Rattle.protocol.proofs.Programs.{OfEnding}
 use Rattle.protocol.proofs.Bounds.{Broken, plays_within}
 use Rattle.protocol.specs.Ops.{reply_at, Program}

@@ -1,5 +1,6 @@
 -- The limits of a step of either role: at most 11 calls of at most 164 octets, both reached; what a failure to deliver
 -- does, after a packet PairingFailed alone; a canonical machine stays canonical. Assumes nothing.
+use Rattle.std.specs.Prelude.{Some}
 use Prim.Native.Nat.{ℕ, ◌≤◌}
 use mathlib.Core.Bool.{true}
 use mathlib.Core.Path.{◌≡◌, refl, ap, ◌∙◌}
@@ -17,12 +18,10 @@ use Rattle.types.specs.declared.types.PairingFeatures.{PairingFeatures}
 use Rattle.types.specs.declared.types.UseOutOfBand.TheVariants.{NotPresent}
 use Rattle.util.specs.declared.util.PairingMethod.TheVariants.{JustWorks}
 use Rattle.bond.specs.Bond.{bd_addr_octets, address_octets, address_of, bond_octets, bond_with}
-use Rattle.bond.specs.declared.OptionBond.TheVariants as option
 use Rattle.host.specs.Calls.{call_octets, calls_octets, longest}
 use Rattle.host.specs.declared.call.Call.{Call}
 use Rattle.answer.specs.Answers.{body_at, verdict_at, ltk_at, ediv_at, rand_at, irk_at, address_at}
 use Rattle.machine.specs.Machine.{new_data, no_confirm_data, want_bonding}
-use Rattle.machine.specs.declared.Event.{Event}
 use Rattle.machine.specs.declared.Event.TheVariants as event
 use Rattle.machine.specs.declared.Input.{Input}
 use Rattle.machine.specs.declared.Input.TheVariants as input
@@ -35,7 +34,8 @@ use Rattle.protocol.specs.Program.{bind, Ending, ended, wanting, refusing, Playe
 use Rattle.protocol.specs.Handlers.{Handler, entered, enters, with_features, with_bond, with_keys, enter, send_encryption_key, send_identity_key}
 use Rattle.protocol.specs.LegacyCentral as central
 use Rattle.protocol.specs.LegacyPeripheral as peripheral
-use Rattle.protocol.specs.Step.{handle_input_by_role, play_of, stepped, step}
+use Rattle.protocol.specs.Step.{handle_input_by_role, play_of, step}
+use Rattle.protocol.specs.declared.Refusal.{Refusal}
 use Rattle.protocol.specs.declared.Outcome.TheVariants as outcome
 use Rattle.protocol.proofs.StepLaws.{step_list, step_gives}
 use Rattle.protocol.proofs.Programs.{OfEnding}
@@ -90,7 +90,7 @@ most_octets r m i payload answers = (play_limits r m i payload answers).size
 -- the list is as it was
 pub written_front :
     (r : Role) (m : Machine) (i : Input) (payload answers list : List ℕ) → longest ≤ length list →
-    ((n : ℕ) → (step r m i payload answers list).stepped.outcome ≡ outcome.Refused n → ⊥) →
+    ((n : Refusal) → (step r m i payload answers list).stepped.outcome ≡ outcome.Refused n → ⊥) →
     (step r m i payload answers list).list
     ≡ calls_octets (play_of r m i payload answers).calls
     ++ drop (length (calls_octets (play_of r m i payload answers).calls)) list
@@ -133,7 +133,7 @@ abbrev encrypting : PairingFeatures → PairingFeatures → Machine
 encrypting local peer =
     let zero = address_of (replicate 7 0) in
     let d = with_features local peer JustWorks (new_data zero zero NoInputNoOutput) in
-    enters phase.WaitingLinkEncrypted no_confirm_data (with_bond (option.Some (bond_with (replicate 51 0) true)) d)
+    enters phase.WaitingLinkEncrypted no_confirm_data (with_bond (Some (bond_with (replicate 51 0) true)) d)
 
 -- answers of zeros: the kind of each, and how many octets it has
 abbrev zeros : List (ℕ × ℕ) → List ℕ

@@ -1,6 +1,7 @@
 -- What demand 3 does not speak of, or speaks of in words that both ends share: laws of the definitions, with edits that
 -- they refuse. (The answer's flags: Response. Where both type: Allowed. A refused step's counts, any list: StepLaws.)
 -- Assumes nothing.
+use Rattle.std.specs.Prelude.{Option, Some, None, Err}
 use Prim.Native.Nat.{ℕ, ◌≤◌, ◌<◌}
 use mathlib.Core.Path.{◌≡◌, refl, ap, ◌∙◌}
 use mathlib.Core.Bool.{Bool, true, false, cond}
@@ -19,16 +20,10 @@ use Rattle.bond.specs.Bond.{address_type, bd_addr_octets, verdict_error}
 use Rattle.bond.specs.declared.Address.{Address}
 use Rattle.bond.specs.declared.BondInformation.{BondInformation}
 use Rattle.bond.specs.declared.Error.TheVariants.{OutOfMemory, Host}
-use Rattle.bond.specs.declared.OptionBond.TheVariants as option
 use Rattle.host.specs.declared.call.Call.TheVariants as call
 use Rattle.host.specs.declared.call.ConnectionEvent.TheVariants as notice
 use Rattle.answer.specs.Answers.{found, address_body, encryption_body, bonded_body}
-use Rattle.answer.specs.declared.AddressResult.TheVariants as address-result
-use Rattle.answer.specs.declared.BondResult.TheVariants as bond-result
-use Rattle.answer.specs.declared.OptionBondResult.TheVariants as option-result
 use Rattle.machine.specs.Machine.{no_confirm_data, want_bonding}
-use Rattle.machine.specs.declared.ConfirmBytes.{ConfirmBytes}
-use Rattle.machine.specs.declared.ConfirmBytes.TheVariants as stored
 use Rattle.machine.specs.declared.ConfirmPhaseData.{ConfirmPhaseData}
 use Rattle.machine.specs.declared.Event.TheVariants as event
 use Rattle.machine.specs.declared.Input.TheVariants as input
@@ -56,8 +51,8 @@ smaller_least a b = go (dec_lt a b)
     go (no n) = rw (le-ltb a b (omega arith)) (inr refl, omega arith, omega arith)
 
 -- Part H 2.3.5.3: a passkey is the temporary key's low part, the rest zero
-pub passkey_is_tk : (n : ℕ) → ((pass_key_tk n).low ≡ n) × ((pass_key_tk n).high ≡ 0)
-passkey_is_tk n = (refl, refl)
+pub passkey_is_tk : (n : ℕ) → pass_key_tk n ≡ n
+passkey_is_tk n = refl
 
 -- in c1, address kind 0 is 0, and any other counts as 1
 pub kind_public : (a : Address) → a.kind ≡ 0 → addr_type_flag a ≡ 0
@@ -107,13 +102,13 @@ verdict_of_the_host v h k = rw (ne_eqb v 0 h, ne_eqb v 1 k) refl
 
 -- of the answers to 0x32, 0x3A and 0x3B, in the first octet: after another than 0 the rest of the body is ignored
 module _ (body : List ℕ) (not_done : get_or body 0 0 ≡ 0 → ⊥) where
-  pub address_refused : address_body body ≡ address-result.Err (verdict_error (get_or body 0 0))
+  pub address_refused : address_body body ≡ Err (verdict_error (get_or body 0 0))
   address_refused = rw (ne_eqb (get_or body 0 0) 0 not_done) refl
 
-  pub encryption_refused : encryption_body body ≡ found (bond-result.Err (verdict_error (get_or body 0 0)))
+  pub encryption_refused : encryption_body body ≡ found (Err (verdict_error (get_or body 0 0)))
   encryption_refused = rw (ne_eqb (get_or body 0 0) 0 not_done) refl
 
-  pub bonded_encryption_refused : bonded_body body ≡ found (option-result.Err (verdict_error (get_or body 0 0)))
+  pub bonded_encryption_refused : bonded_body body ≡ found (Err (verdict_error (get_or body 0 0)))
   bonded_encryption_refused = rw (ne_eqb (get_or body 0 0) 0 not_done) refl
 
 -- ---- a bonded reconnect: 0x3B is asked, then the identity key is awaited where it is named, else it is Success
@@ -141,9 +136,9 @@ bonded_reconnect c d payload = go (names_identity_key d.peer_features.initiator_
 -- ---- an early Confirm is stored, and answered as soon as the passkey is typed
 
 pub early_confirm_stored :
-    (r : Role) (b : ConfirmBytes) (c : ConfirmPhaseData) (d : PairingData) (payload : List ℕ) → length payload ≡ 16 →
+    (r : Role) (b : Option Confirm) (c : ConfirmPhaseData) (d : PairingData) (payload : List ℕ) → length payload ≡ 16 →
     transition_of r (standing (phase.WaitingPassKeyInput b) c d) (received command.PairingConfirm) payload
-    ≡ give (enters (phase.WaitingPassKeyInput (stored.Some (record { 0 = word_of payload }))) c d)
+    ≡ give (enters (phase.WaitingPassKeyInput (Some (record { 0 = word_of payload }))) c d)
 unfolding central.transition peripheral.transition store_confirm_bytes word_in
 early_confirm_stored Central b c d payload h = rw (eq-eqb (length payload) 16 h) refl
 early_confirm_stored Peripheral b c d payload h = rw (eq-eqb (length payload) 16 h) refl
@@ -151,7 +146,7 @@ early_confirm_stored Peripheral b c d payload h = rw (eq-eqb (length payload) 16
 module _ (c : ConfirmPhaseData) (d : PairingData) (payload : List ℕ) (n : ℕ) (confirm : Confirm) where
   -- by Sconfirm
   pub early_confirm_at_the_head :
-      peripheral.transition (standing (phase.WaitingPassKeyInput (stored.Some confirm)) c d)
+      peripheral.transition (standing (phase.WaitingPassKeyInput (Some confirm)) c d)
       (input.Event (event.PassKeyInput n)) payload
       ≡ ◌>>=◌ (peripheral.send_sconfirm (with_tk c (pass_key_tk n)) d)
       (λ c₁. give (enters (phase.WaitingPairingRandom confirm) c₁ d))
@@ -160,7 +155,7 @@ module _ (c : ConfirmPhaseData) (d : PairingData) (payload : List ℕ) (n : ℕ)
 
   -- by Mrand, behind Mconfirm
   pub early_confirm_at_the_terminal :
-      central.transition (standing (phase.WaitingPassKeyInput (stored.Some confirm)) c d)
+      central.transition (standing (phase.WaitingPassKeyInput (Some confirm)) c d)
       (input.Event (event.PassKeyInput n)) payload
       ≡ ◌>>=◌ (central.send_mconfirm (with_tk c (pass_key_tk n)) d)
       (λ c₁. ◌>>◌ (central.send_mrand c₁ d) (give (enters (phase.WaitingPairingRandom confirm) c₁ d)))
@@ -169,13 +164,13 @@ module _ (c : ConfirmPhaseData) (d : PairingData) (payload : List ℕ) (n : ℕ)
 
 -- ---- Success is entered with the machine's bond
 
-module _ (c : ConfirmPhaseData) (d : PairingData) (b : BondInformation) (h : d.bond_information ≡ option.Some b) where
+module _ (c : ConfirmPhaseData) (d : PairingData) (b : BondInformation) (h : d.bond_information ≡ Some b) where
   -- where both wish to bond: 0x3C with the bond, then 0x21 with its level and the bond
   pub bond_handed_on :
       want_bonding d ≡ true →
       enter (standing phase.Success c d)
       ≡ ask (call.UpdateBondInformation b)
-      (λ x. ask (call.SendConnectionEvent (notice.PairingComplete b.security_level (option.Some b)))
+      (λ x. ask (call.SendConnectionEvent (notice.PairingComplete b.security_level (Some b)))
       (λ y. ret (standing phase.Success c d)))
   unfolding enter want_bonding
   bond_handed_on w = ap (enter_success (standing phase.Success c d)) h ∙ ap (enter_bonded (standing phase.Success c d) b) w
@@ -184,14 +179,14 @@ module _ (c : ConfirmPhaseData) (d : PairingData) (b : BondInformation) (h : d.b
   pub no_bond_handed_on :
       want_bonding d ≡ false →
       enter (standing phase.Success c d)
-      ≡ ask (call.SendConnectionEvent (notice.PairingComplete b.security_level option.None))
+      ≡ ask (call.SendConnectionEvent (notice.PairingComplete b.security_level None))
       (λ x. ret (standing phase.Success c d))
   unfolding enter want_bonding
   no_bond_handed_on w = ap (enter_success (standing phase.Success c d)) h ∙ ap (enter_bonded (standing phase.Success c d) b) w
 
 -- without a bond the host gets no call
 pub no_bond_no_call :
-    (c : ConfirmPhaseData) (d : PairingData) → d.bond_information ≡ option.None →
+    (c : ConfirmPhaseData) (d : PairingData) → d.bond_information ≡ None →
     enter (standing phase.Success c d) ≡ ret (standing phase.Success c d)
 unfolding enter
 no_bond_no_call c d h = ap (enter_success (standing phase.Success c d)) h

@@ -1,13 +1,12 @@
 -- Pairing as an exchange of two ends, the terminal its opener, and the protocol that both follow from a fair start: the
 -- packets in their order, each with the data behind it, and how each end stands at the end. Assumes nothing.
+use Rattle.std.specs.Prelude.{Option, Some, None}
 use Prim.Native.Nat.{ℕ, zero, suc, ◌+◌, ◌*◌, ◌≤◌}
 use mathlib.Core.Path.{◌≡◌, refl, sym, ◌∙◌}
 use mathlib.Core.Bool.{Bool, true, false, cond, not, ◌&&◌, ◌||◌, true≢false}
 use mathlib.Core.List.{List, [], ◌∷◌, ◌++◌}
-use mathlib.Core.Option.{Option, none, some}
 use native.Mathlib.Omega.{arith}
 use lib.Dec.{eqb}
-use Rattle.octets.specs.declared.Word128.{Word128}
 use Rattle.crypto.specs.Crypto.{masked_of, c1_of, s1_of}
 use Rattle.crypto.specs.declared.crypto.Confirm.{Confirm}
 use Rattle.crypto.specs.declared.crypto.IdentityResolvingKey.{IdentityResolvingKey}
@@ -22,12 +21,10 @@ use Rattle.util.specs.declared.util.PairingMethod.TheVariants as method
 use Rattle.bond.specs.Bond.{bd_addr_octets}
 use Rattle.bond.specs.declared.Address.{Address}
 use Rattle.bond.specs.declared.BondInformation.{BondInformation}
-use Rattle.bond.specs.declared.OptionBond.TheVariants as option
 use Rattle.host.specs.Calls.{packet_command, packet_body, kind_of}
 use Rattle.host.specs.declared.call.Call.{Call}
 use Rattle.host.specs.declared.call.Packet.{Packet}
 use Rattle.host.specs.declared.call.Packet.TheVariants as packet
-use Rattle.machine.specs.Machine.{zero_word}
 use Rattle.machine.specs.declared.Machine.{Machine}
 use Rattle.machine.specs.declared.Phase.TheVariants as phase
 use Rattle.machine.specs.declared.Role.{Role}
@@ -100,8 +97,8 @@ raised_by x c =
     ++ first_raises 0x3A encryption_on x.report c)
 
 abbrev pub first_of : List QueuedPacket → Option QueuedPacket
-first_of [] = none
-first_of (p ∷ l) = some p
+first_of [] = None
+first_of (p ∷ l) = Some p
 
 abbrev pub is_oob : Due → Bool
 is_oob pass_key = false
@@ -206,17 +203,17 @@ abbrev pub sent_keys : LongTermKey → (ediv rand : ℕ) → SentKeys
 sent_keys ltk ediv rand = record { ltk = ltk; identification = record { ediv = ediv; rand = rand } }
 
 abbrev pub AreSent : Option SentKeys → Type 0
-AreSent none = ⊥
-AreSent (some x) = Unit {0}
+AreSent None = ⊥
+AreSent (Some x) = Unit {0}
 
 -- .. in the packets of an end that sent these or none
 abbrev pub sent_ltks : Option SentKeys → List LongTermKey
-sent_ltks none = []
-sent_ltks (some x) = x.ltk ∷ []
+sent_ltks None = []
+sent_ltks (Some x) = x.ltk ∷ []
 
 abbrev pub sent_identifications : Option SentKeys → List Identification
-sent_identifications none = []
-sent_identifications (some x) = x.identification ∷ []
+sent_identifications None = []
+sent_identifications (Some x) = x.identification ∷ []
 
 abbrev pub queued : Packet → QueuedPacket
 queued p = record { code = command_code (packet_command p); payload = packet_body p }
@@ -260,8 +257,8 @@ module _ (s : Start) (a : Answer s) where
 
   -- a bond has the responder's LTK, cut, EDIV and Rand, if they were sent
   abbrev pub KeepsKeys : Option SentKeys → LongTermKey → (ediv rand : ℕ) → Type 0
-  KeepsKeys none ltk ediv rand = Unit {0}
-  KeepsKeys (some x) ltk ediv rand =
+  KeepsKeys None ltk ediv rand = Unit {0}
+  KeepsKeys (Some x) ltk ediv rand =
       (ltk ≡ masked_of size x.ltk) × (ediv ≡ x.identification.ediv) × (rand ≡ x.identification.rand)
 
   abbrev pub Keeps : Option SentKeys → BondInformation → Type 0
@@ -269,7 +266,7 @@ module _ (s : Start) (a : Answer s) where
 
   -- .. and a machine has such a bond
   abbrev pub Stored : Option SentKeys → Machine → Type 0
-  Stored x m = (b : BondInformation) × (m.pairing_data.bond_information ≡ option.Some b) × Keeps x b
+  Stored x m = (b : BondInformation) × (m.pairing_data.bond_information ≡ Some b) × Keeps x b
 
   -- they are sent where the claim speaks of them
   abbrev pub SentIfClaimed : Option SentKeys → Type 0
@@ -326,9 +323,9 @@ module _ (shared : Shared) where
       }
 
   -- the temporary key of a method
-  abbrev pub tk_of : PairingMethod → Word128
-  tk_of method.JustWorks = zero_word
-  tk_of method.NumericComparison = zero_word
+  abbrev pub tk_of : PairingMethod → ℕ
+  tk_of method.JustWorks = 0
+  tk_of method.NumericComparison = 0
   tk_of (method.PassKeyEntry central peripheral) =
       pass_key_tk (cond (shows (method.PassKeyEntry central peripheral)) shared.shown shared.typed)
   tk_of method.OutOfBand = shared.oob
@@ -407,7 +404,7 @@ module _ (shared : Shared) (s : Start) where
     Done e x replier m l = HeadDone e x m l
 
     holds_keys :
-        (x : SentKeys) (m : Machine) → Stored s a (some x) m → HoldsKeys (size s a) x.ltk x.identification m
+        (x : SentKeys) (m : Machine) → Stored s a (Some x) m → HoldsKeys (size s a) x.ltk x.identification m
     holds_keys x m t =
         record { bond = t.0; has = t.1; cut = t.2.0; same_ediv = t.2.1; same_rand = t.2.2 }
 
@@ -415,8 +412,8 @@ module _ (shared : Shared) (s : Start) where
         (x : Option SentKeys) (m m₁ : Machine) (ltks : List LongTermKey) (identifications : List Identification) →
         AreSent x → Stored s a x m → Stored s a x m₁ → ltks ≡ sent_ltks x →
         identifications ≡ sent_identifications x → SameBonds (size s a) ltks identifications m m₁
-    same_bonds_lem none m m₁ ltks identifications h t u p q = absurd h
-    same_bonds_lem (some x) m m₁ ltks identifications h t u p q =
+    same_bonds_lem None m m₁ ltks identifications h t u p q = absurd h
+    same_bonds_lem (Some x) m m₁ ltks identifications h t u p q =
         record {
           ltk = x.ltk;
           identification = x.identification;
@@ -481,13 +478,13 @@ module _ (shared : Shared) (s : Start) where
     abbrev pub head_keys :
         Encryption → (named : Bool) → names_encryption_key a.features.responder_key_distribution ≡ named →
         PairingProtocol
-    head_keys e true p = encryption_key replier (λ x. head_identity e (some x) (λ b q. tt))
-    head_keys e false p = head_identity e none (λ b q. absurd (true≢false (sym q ∙ p)))
+    head_keys e true p = encryption_key replier (λ x. head_identity e (Some x) (λ b q. tt))
+    head_keys e false p = head_identity e None (λ b q. absurd (true≢false (sym q ∙ p)))
 
     -- keys where both bond
     abbrev pub after_srand : Encryption → (bond : Bool) → both s a ≡ bond → PairingProtocol
     after_srand e true p = head_keys e (names_encryption_key a.features.responder_key_distribution) refl
-    after_srand e false p = ending e none (λ q r. absurd (true≢false (sym q ∙ p)))
+    after_srand e false p = ending e None (λ q r. absurd (true≢false (sym q ∙ p)))
 
     -- Mconfirm, Sconfirm, Mrand, Srand
     abbrev pub after_mrand : (mrand srand : Nonce) → PairingProtocol

@@ -1,16 +1,15 @@
 -- What one end sends, the other reads back: payloads of packets as the handlers read them, and the key flags of the
 -- answer. Assumes nothing.
+use Rattle.std.specs.Prelude.{Some}
 use Prim.Native.Nat.{ℕ, ◌≤◌, ◌<◌}
 use mathlib.Core.Path.{◌≡◌, refl, sym, ap, ◌∙◌}
 use mathlib.Core.Bool.{Bool, true, false, cond, ◌||◌, or-true, or-false}
-use mathlib.Core.Option.{some}
 use mathlib.Core.List.{◌∷◌, ◌++◌}
 use native.Mathlib.Decide.{dec_lt}
 use native.Mathlib.Omega.{arith}
 use lib.Dec.{eqb}
 use borrow.Author.Tests.{lt-ltb, le-ltb}
 use Rattle.octets.specs.Octets.{from_octets, to_octets, octets_of, word_of}
-use Rattle.octets.specs.declared.Word128.{Word128}
 use Rattle.types.specs.Types.{flag, encryption_key_flag, identity_key_flag}
 use Rattle.types.specs.Types.{feature_octets, least_key_size, largest_key_size}
 use Rattle.types.specs.declared.types.KeyDistributionFlags.{KeyDistributionFlags}
@@ -25,30 +24,30 @@ use Rattle.protocol.specs.LegacyPeripheral.{add_key, initiator_keys}
 
 -- ---- payloads
 
-pub some_word : (w : Word128) → word_in (octets_of w) ≡ some (word_of (octets_of w))
+pub some_word : (w : ℕ) → word_in (octets_of w) ≡ Some (word_of (octets_of w))
 unfolding word_in octets_of
 some_word w = refl
 
-pub word_in_lem : (w : Word128) → word_of (octets_of w) ≡ w → word_in (octets_of w) ≡ some w
-word_in_lem w e = some_word w ∙ ap some e
+pub word_in_lem : (w : ℕ) → word_of (octets_of w) ≡ w → word_in (octets_of w) ≡ Some w
+word_in_lem w e = some_word w ∙ ap Some e
 
 pub features_in_lem : (f : PairingFeatures) → least_key_size ≤ f.maximum_encryption_key_size
-    → f.maximum_encryption_key_size ≤ largest_key_size → features_in (feature_octets f) ≡ some f
+    → f.maximum_encryption_key_size ≤ largest_key_size → features_in (feature_octets f) ≡ Some f
 unfolding features_in
 features_in_lem f l h = ap answered (read_back f l h)
 
 pub identification_in_lem : (ediv rand : ℕ) → from_octets (to_octets 2 ediv) ≡ ediv → from_octets (to_octets 8 rand) ≡ rand
-    → identification_in (to_octets 2 ediv ++ to_octets 8 rand) ≡ some (ediv, rand)
+    → identification_in (to_octets 2 ediv ++ to_octets 8 rand) ≡ Some (ediv, rand)
 unfolding identification_in
 identification_in_lem ediv rand e r = rw (e, r)
 
 pub address_in_lem : (a : Address)
-    → address_in (address_type a ∷ bd_addr_octets a.addr) ≡ some (address_of (address_type a ∷ bd_addr_octets a.addr))
+    → address_in (address_type a ∷ bd_addr_octets a.addr) ≡ Some (address_of (address_type a ∷ bd_addr_octets a.addr))
 unfolding address_in address_type bd_addr_octets
 address_in_lem a = go (eqb a.kind 0)
   where
     go : (b : Bool)
-        → address_in (cond b 0 1 ∷ bd_addr_octets a.addr) ≡ some (address_of (cond b 0 1 ∷ bd_addr_octets a.addr))
+        → address_in (cond b 0 1 ∷ bd_addr_octets a.addr) ≡ Some (address_of (cond b 0 1 ∷ bd_addr_octets a.addr))
     go true = refl
     go false = refl
 

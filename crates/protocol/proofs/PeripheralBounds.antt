@@ -1,11 +1,12 @@
 -- Bounds of the peripheral: each of its functions, and so a transition, makes at most so many calls of at most so many
 -- octets, fails where a packet is not delivered, and gives a canonical machine. Assumes nothing.
+use Rattle.std.specs.Prelude.{Option, Some, None, eqb}
 use Prim.Native.Nat.{ℕ}
 use mathlib.Core.Bool.{Bool, true, false}
 use mathlib.Core.Path.{refl}
 use mathlib.Core.List.{List}
 use lib.Dec.{lit≤}
-use Rattle.octets.specs.Octets.{octets_of, same_word}
+use Rattle.octets.specs.Octets.{octets_of}
 use Rattle.crypto.specs.Crypto.{s1_of}
 use Rattle.crypto.specs.declared.crypto.Confirm.{Confirm}
 use Rattle.crypto.specs.declared.crypto.Nonce.{Nonce}
@@ -15,8 +16,6 @@ use Rattle.util.specs.declared.util.PairingMethod.TheVariants as method
 use Rattle.util.specs.declared.util.PassKeyEntryAction.TheVariants as action
 use Rattle.host.specs.Calls.{call_octets}
 use Rattle.machine.specs.Machine.{want_bonding}
-use Rattle.machine.specs.declared.ConfirmBytes.{ConfirmBytes}
-use Rattle.machine.specs.declared.ConfirmBytes.TheVariants as stored
 use Rattle.machine.specs.declared.ConfirmPhaseData.{ConfirmPhaseData}
 use Rattle.machine.specs.declared.Input.{Input}
 use Rattle.machine.specs.declared.Machine.{Machine}
@@ -83,11 +82,11 @@ peer_confirm_keeps c d payload =
     or_fail_then _ _ 2 18 d _ (word_in payload) (λ w. answer_confirm_keeps c d (record { 0 = w }))
 
 pass_key_input_keeps :
-    (c : ConfirmPhaseData) (d : PairingData) (n : ℕ) (early : ConfirmBytes) →
+    (c : ConfirmPhaseData) (d : PairingData) (n : ℕ) (early : Option Confirm) →
     Keeps Enters 2 18 (handle_pass_key_input c d n early)
 unfolding handle_pass_key_input
-pass_key_input_keeps c d n (stored.Some confirm) = answer_confirm_keeps _ d confirm
-pass_key_input_keeps c d n stored.None = record { of_role = tt; kept = refl }
+pass_key_input_keeps c d n (Some confirm) = answer_confirm_keeps _ d confirm
+pass_key_input_keeps c d n None = record { of_role = tt; kept = refl }
 
 bond_lost_keeps : (found : Bool) → Keeps Anything 1 1 (bond_lost found)
 unfolding call_octets
@@ -161,7 +160,7 @@ pairing_random_keeps :
 unfolding handle_pairing_random
 pairing_random_keeps c d confirm payload =
     or_fail_then _ _ 2 36 d _ (word_in payload) (λ w.
-    on_mrand_keeps c d (record { 0 = w }) (same_word (confirm_value c d (record { 0 = w })).0 confirm.0))
+    on_mrand_keeps c d (record { 0 = w }) (eqb (confirm_value c d (record { 0 = w })).0 confirm.0))
 
 -- no call
 central_identification_keeps :

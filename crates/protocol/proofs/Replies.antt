@@ -1,9 +1,9 @@
 -- Replies read from octets keep the laws that Programs.antt asks of a way of reading answers: more octets behind change
 -- nothing, and an answer is wanted at the end of the octets alone. Assumes nothing.
+use Rattle.std.specs.Prelude.{Option, Some, None}
 use Prim.Native.Nat.{ℕ, ◌+◌, ◌≤◌, ◌<◌}
 use mathlib.Core.Path.{◌≡◌, refl, sym, ap, ◌∙◌, subst}
 use mathlib.Core.Bool.{Bool, true, false, cond, ◌&&◌}
-use mathlib.Core.Option.{Option, none, some}
 use mathlib.Core.List.{List, ◌∷◌, ◌++◌}
 use native.Mathlib.Omega.{arith}
 use lib.Dec.{eqb, ltb}
@@ -123,17 +123,17 @@ IsThere wanted = ⊥
 IsThere (refusal k) = Unit {0}
 
 allowed_there : {X Y : Type 0} (o : Option X) (f : X → Y) → IsThere (allowed o f)
-allowed_there none f = tt
-allowed_there (some x) f = tt
+allowed_there None f = tt
+allowed_there (Some x) f = tt
 
 cond_there : {X : Type 0} (t : Bool) (x y : Found X) → IsThere x → IsThere y → IsThere (cond t x y)
 cond_there true x y h k = h
 cond_there false x y h k = k
 
 present_there : (b : List ℕ) (o : Option Bool) → IsThere (on_present b o)
-present_there b none = tt
-present_there b (some true) = allowed_there (bond_of (take 51 (drop 2 b))) _
-present_there b (some false) = tt
+present_there b None = tt
+present_there b (Some true) = allowed_there (bond_of (take 51 (drop 2 b))) _
+present_there b (Some false) = tt
 
 meaning_there : (sort : Sort) (b : List ℕ) → IsThere (meaning sort b)
 meaning_there a_verdict b = tt

@@ -1,12 +1,11 @@
 -- The answer to a request, flag by flag, as `handle_pairing_request` of the Rust makes it: what the head's record has,
 -- what the request adds to it, and what the head's host says. Assumes nothing.
+use Rattle.std.specs.Prelude.{Some, eqb}
 use Prim.Native.Nat.{ℕ}
 use mathlib.Core.Path.{◌≡◌, refl, ap, ◌∙◌}
 use mathlib.Core.Bool.{Bool, true, false, ◌||◌}
 use mathlib.Core.List.{List}
-use mathlib.Core.Option.{some}
 use native.Mathlib.Omega.{arith}
-use Rattle.octets.specs.Octets.{same_word}
 use Rattle.crypto.specs.declared.crypto.IdentityResolvingKey.{IdentityResolvingKey}
 use Rattle.types.specs.Types.{feature_octets, oob_present, bonding_of, flag, mitm_flag, encryption_key_flag, identity_key_flag}
 use Rattle.types.specs.declared.capabilities.IoCapabilities.{IoCapabilities}
@@ -20,7 +19,7 @@ use Rattle.host.specs.declared.call.Packet.TheVariants as packet
 use Rattle.host.specs.declared.call.Question.TheVariants as question
 use Rattle.machine.specs.declared.Machine.{Machine}
 use Rattle.machine.specs.declared.PairingData.{PairingData}
-use Rattle.machine.specs.Machine.{is_bonding, wishes, zero_word}
+use Rattle.machine.specs.Machine.{is_bonding, wishes}
 use Rattle.protocol.specs.Program.{ask}
 use Rattle.protocol.specs.Ops.{Delivery}
 use Rattle.protocol.specs.Handlers.{Handler, ◌>>=◌, ◌>>◌, give, on_delivery, asked, features_in, command_octets, names_encryption_key, names_identity_key, with_features}
@@ -144,11 +143,10 @@ pub record OffersIdentity : Type 0 where
   pub not_named : identity_offered false ≡ give false
   pub then : IdentityResolvingKey → Handler Bool
   pub named : identity_offered true ≡ ask (call.Ask question.LocalIrk) then
-  pub without_irk : then (record { 0 = zero_word }) ≡ give false
-  pub with_irk : (irk : IdentityResolvingKey) → same_word irk.0 zero_word ≡ false → then irk ≡ give true
+  pub without_irk : then (record { 0 = 0 }) ≡ give false
+  pub with_irk : (irk : IdentityResolvingKey) → eqb irk.0 0 ≡ false → then irk ≡ give true
 
 pub offers_identity : OffersIdentity
-unfolding same_word
 offers_identity =
     record { not_named = refl; then = _; named = refl; without_irk = refl; with_irk = λ irk e. rw e refl }
 
@@ -156,7 +154,7 @@ offers_identity =
 
 -- behind 0x30 and any BondLost: 0x31 where the request names the identity key, then 0x33, 0x34 and the response
 pub answer_sent :
-    (d : PairingData) (payload : List ℕ) (peer : PairingFeatures) → features_in payload ≡ some peer →
+    (d : PairingData) (payload : List ℕ) (peer : PairingFeatures) → features_in payload ≡ Some peer →
     (then : (offered bonding available : Bool) → Delivery → Handler Machine)
     × (handle_pairing_request d payload
     ≡ ◌>>=◌ (asked question.FindBond) (λ found. ◌>>◌ (bond_lost found)

@@ -14,6 +14,8 @@ use Rattle.host.specs.declared.call.Call.{Call}
 use Rattle.machine.specs.declared.Input.{Input}
 use Rattle.machine.specs.declared.Machine.{Machine}
 use Rattle.machine.specs.declared.Role.{Role}
+use Rattle.protocol.specs.declared.Refusal.{Refusal}
+use Rattle.protocol.specs.declared.Refusal.TheVariants.{ShortList, UnknownCommand, ForbiddenAnswer}
 use Rattle.protocol.specs.declared.Outcome.{Outcome}
 use Rattle.protocol.specs.declared.Outcome.TheVariants as outcome
 use Rattle.protocol.specs.Program.{ask, Ending, ended, wanting, refusing, Played, play}
@@ -50,7 +52,7 @@ IsWants outcome.Ended = ⊥
 IsWants outcome.Wants = Unit {0}
 IsWants (outcome.Refused n) = ⊥
 
-abbrev IsRefusedBy : ℕ → Outcome → Type 0
+abbrev IsRefusedBy : Refusal → Outcome → Type 0
 IsRefusedBy n outcome.Ended = ⊥
 IsRefusedBy n outcome.Wants = ⊥
 IsRefusedBy n (outcome.Refused k) = k ≡ n
@@ -59,7 +61,7 @@ module _ (m : Machine) (list : List ℕ) (x : Played Call Machine) where
   -- a step by its two tests and the ending of its play
   abbrev made : Bool → Bool → Ending Machine → Step
   made short known e =
-      cond short (refused_by 1 m list) (cond known (stepped m list x.calls x.place e) (refused_by 2 m list))
+      cond short (refused_by ShortList m list) (cond known (stepped m list x.calls x.place e) (refused_by UnknownCommand m list))
 
   made_ended : (short known : Bool) (e : Ending Machine) → IsEnded (made short known e).stepped.outcome
       → (m₁ : Machine) × (e ≡ ended m₁) × (made short known e ≡ stepped m list x.calls x.place (ended m₁))
@@ -77,32 +79,32 @@ module _ (m : Machine) (list : List ℕ) (x : Played Call Machine) where
   made_wants false true refusing h = absurd h
   made_wants false false e h = absurd h
 
-  made_refused : (n : ℕ) (short known : Bool) (e : Ending Machine)
+  made_refused : (n : Refusal) (short known : Bool) (e : Ending Machine)
       → IsRefusedBy n (made short known e).stepped.outcome → made short known e ≡ refused_by n m list
-  made_refused n true known e h = ap (λ (k : ℕ). refused_by k m list) h
+  made_refused n true known e h = ap (λ (k : Refusal). refused_by k m list) h
   made_refused n false true (ended m₁) h = absurd h
   made_refused n false true wanting h = absurd h
-  made_refused n false true refusing h = ap (λ (k : ℕ). refused_by k m list) h
-  made_refused n false false e h = ap (λ (k : ℕ). refused_by k m list) h
+  made_refused n false true refusing h = ap (λ (k : Refusal). refused_by k m list) h
+  made_refused n false false e h = ap (λ (k : Refusal). refused_by k m list) h
 
   -- a step that is not refused has read to the place of its play
   made_read : (short known : Bool) (e : Ending Machine)
-      → ((n : ℕ) → (made short known e).stepped.outcome ≡ outcome.Refused n → ⊥)
+      → ((n : Refusal) → (made short known e).stepped.outcome ≡ outcome.Refused n → ⊥)
       → (made short known e).stepped.read ≡ x.place
-  made_read true known e h = absurd (h 1 refl)
+  made_read true known e h = absurd (h ShortList refl)
   made_read false true (ended m₁) h = refl
   made_read false true wanting h = refl
-  made_read false true refusing h = absurd (h 3 refl)
-  made_read false false e h = absurd (h 2 refl)
+  made_read false true refusing h = absurd (h ForbiddenAnswer refl)
+  made_read false false e h = absurd (h UnknownCommand refl)
 
   made_list : (short known : Bool) (e : Ending Machine)
-      → ((n : ℕ) → (made short known e).stepped.outcome ≡ outcome.Refused n → ⊥)
+      → ((n : Refusal) → (made short known e).stepped.outcome ≡ outcome.Refused n → ⊥)
       → (made short known e).list ≡ write_at list 0 (calls_octets x.calls)
-  made_list true known e h = absurd (h 1 refl)
+  made_list true known e h = absurd (h ShortList refl)
   made_list false true (ended m₁) h = refl
   made_list false true wanting h = refl
-  made_list false true refusing h = absurd (h 3 refl)
-  made_list false false e h = absurd (h 2 refl)
+  made_list false true refusing h = absurd (h ForbiddenAnswer refl)
+  made_list false false e h = absurd (h UnknownCommand refl)
 
   made_gives : (P : Machine → Type 0) (short known : Bool) (e : Ending Machine) → P m → OfEnding P e
       → P (made short known e).stepped.machine
@@ -131,7 +133,7 @@ module _ (r : Role) (m : Machine) (i : Input) (payload answers list : List ℕ) 
       let x = play_of r m i payload answers in
       made_wants m list x (ltb (length list) longest) (is_known i) x.ending (subst IsWants (sym h) tt)
 
-  read_place : ((n : ℕ) → (step r m i payload answers list).stepped.outcome ≡ outcome.Refused n → ⊥)
+  read_place : ((n : Refusal) → (step r m i payload answers list).stepped.outcome ≡ outcome.Refused n → ⊥)
       → (step r m i payload answers list).stepped.read ≡ (play_of r m i payload answers).place
   unfolding step
   read_place h =
@@ -139,7 +141,7 @@ module _ (r : Role) (m : Machine) (i : Input) (payload answers list : List ℕ) 
       made_read m list x (ltb (length list) longest) (is_known i) x.ending h
 
   -- a step that is not refused writes its calls to the list
-  pub step_list : ((n : ℕ) → (step r m i payload answers list).stepped.outcome ≡ outcome.Refused n → ⊥)
+  pub step_list : ((n : Refusal) → (step r m i payload answers list).stepped.outcome ≡ outcome.Refused n → ⊥)
       → (step r m i payload answers list).list ≡ write_at list 0 (calls_octets (play_of r m i payload answers).calls)
   unfolding step
   step_list h =
@@ -235,14 +237,14 @@ module _ (r : Role) (m : Machine) (i : Input) (payload answers list : List ℕ) 
       }
 
   -- a refused step: the machine given, counts 0, the list untouched
-  pub step_refused : (n : ℕ) → (step r m i payload answers list).stepped.outcome ≡ outcome.Refused n
+  pub step_refused : (n : Refusal) → (step r m i payload answers list).stepped.outcome ≡ outcome.Refused n
       → step r m i payload answers list ≡ refused_by n m list
   unfolding step
   step_refused n h =
       let x = play_of r m i payload answers in
       made_refused m list x n (ltb (length list) longest) (is_known i) x.ending (subst (IsRefusedBy n) (sym h) refl)
 
-  pub refused_numbers : (n : ℕ) → (step r m i payload answers list).stepped.outcome ≡ outcome.Refused n
+  pub refused_numbers : (n : Refusal) → (step r m i payload answers list).stepped.outcome ≡ outcome.Refused n
       → StepRefused r m i payload answers list
   refused_numbers n h =
       let e = step_refused n h in
@@ -254,18 +256,18 @@ module _ (r : Role) (m : Machine) (i : Input) (payload answers list : List ℕ) 
       }
 
   -- before all else a list that is too short is refused, by 1
-  pub refused_short : length list < longest → step r m i payload answers list ≡ refused_by 1 m list
+  pub refused_short : length list < longest → step r m i payload answers list ≡ refused_by ShortList m list
   unfolding step
   refused_short l = rw (lt-ltb (length list) longest l)
 
   -- then a code that is no command's, by 2
-  pub refused_code : longest ≤ length list → is_known i ≡ false → step r m i payload answers list ≡ refused_by 2 m list
+  pub refused_code : longest ≤ length list → is_known i ≡ false → step r m i payload answers list ≡ refused_by UnknownCommand m list
   unfolding step
   refused_code l e = rw (le-ltb (length list) longest l, e)
 
   -- then an answer that is none to its call, by 3
   pub refused_answer : longest ≤ length list → is_known i ≡ true → (play_of r m i payload answers).ending ≡ refusing
-      → step r m i payload answers list ≡ refused_by 3 m list
+      → step r m i payload answers list ≡ refused_by ForbiddenAnswer m list
   unfolding step
   refused_answer l e h = rw (le-ltb (length list) longest l, e, h)
 
@@ -310,7 +312,7 @@ module _ (r : Role) (m : Machine) (i : Input) (payload answers list : List ℕ) 
   -- a step that wants, made again with more answers and not refused, lists the same calls, in the same octets, before what
   -- is new, and reads no less
   pub step_again : (more : List ℕ) → (step r m i payload answers list).stepped.outcome ≡ outcome.Wants
-      → ((n : ℕ) → (step r m i payload (answers ++ more) list).stepped.outcome ≡ outcome.Refused n → ⊥)
+      → ((n : Refusal) → (step r m i payload (answers ++ more) list).stepped.outcome ≡ outcome.Refused n → ⊥)
       → (cs : List Call)
       × ((play_of r m i payload (answers ++ more)).calls ≡ (play_of r m i payload answers).calls ++ cs)
       × (calls_octets (play_of r m i payload (answers ++ more)).calls

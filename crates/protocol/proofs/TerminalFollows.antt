@@ -1,14 +1,13 @@
 -- The terminal does what the protocol of pairing says, from its request on. Its stages stand last first, as each leads
 -- to one above it. Before a stage n inputs were got; its calls and inputs are counted, and d are to spare. Assumes
 -- nothing.
+use Rattle.octets.proofs.Octets.{same_number}
+use Rattle.std.specs.Prelude.{Option, Some, None}
 use Prim.Native.Nat.{ℕ, suc, ◌+◌, ◌*◌}
 use mathlib.Core.Path.{◌≡◌, refl}
 use mathlib.Core.Bool.{Bool, true, false}
 use mathlib.Core.List.{[], ◌∷◌}
-use mathlib.Core.Option.{Option, none, some}
 use native.Mathlib.Omega.{arith}
-use Rattle.octets.specs.declared.Word128.{Word128}
-use Rattle.octets.proofs.Octets.{same_refl}
 use Rattle.crypto.specs.declared.crypto.Nonce.{Nonce}
 use Rattle.crypto.proofs.Bounds.{c1_back}
 use Rattle.util.specs.declared.util.PairingMethod.{PairingMethod}
@@ -17,8 +16,6 @@ use Rattle.util.specs.declared.util.PassKeyEntryAction.TheVariants as action
 use Rattle.util.proofs.Choice.{never_numeric}
 use Rattle.bond.specs.declared.Address.{Address}
 use Rattle.bond.specs.declared.BondInformation.{BondInformation}
-use Rattle.bond.specs.declared.OptionBond.{OptionBond}
-use Rattle.bond.specs.declared.OptionBond.TheVariants as option
 use Rattle.machine.specs.Machine.{want_bonding, no_confirm_data, lesc_switch}
 use Rattle.machine.specs.declared.ConfirmPhaseData.{ConfirmPhaseData}
 use Rattle.machine.specs.declared.Machine.{Machine}
@@ -85,13 +82,13 @@ module _ (shared : Shared) (s : Start) (a : Answer s) where
   own_entries = terminal_entries (chosen s a)
 
   -- its temporary key, and its data once the answer is there
-  abbrev tk : Word128
+  abbrev tk : ℕ
   tk = tk_of shared (chosen s a)
 
   abbrev keyed : Nonce → ConfirmPhaseData
   keyed mrand = with_nonce (confirm_data tk (preq s a) (pres s a)) mrand
 
-  abbrev answered_by : Address → OptionBond → PairingData
+  abbrev answered_by : Address → Option BondInformation → PairingData
   answered_by peer bond =
       record {
         local_address = s.terminal_address;
@@ -103,10 +100,10 @@ module _ (shared : Shared) (s : Start) (a : Answer s) where
       }
 
   abbrev unbonded : PairingData
-  unbonded = answered_by s.head_address option.None
+  unbonded = answered_by s.head_address None
 
   abbrev bonded : BondInformation → PairingData
-  bonded b = answered_by s.head_address (option.Some b)
+  bonded b = answered_by s.head_address (Some b)
 
   -- the key size, as the terminal computes it
   same_size :
@@ -120,14 +117,14 @@ module _ (shared : Shared) (s : Start) (a : Answer s) where
     encrypted_with keys n = having shared entry true (e ∷ []) [] keys [] n
 
     abbrev encrypted : ℕ → Local (pairing shared)
-    encrypted n = encrypted_with none n
+    encrypted n = encrypted_with None n
 
     -- .. and no input to come
     module _
         (x : Option SentKeys) (due : SentIfClaimed s a x) (n : ℕ) (all : n ≡ inputs_of_terminal s a)
         (peer : Address) (b : BondInformation) (k : Keeps s a x b) where
       abbrev at_last : PairingData
-      at_last = answered_by peer (option.Some b)
+      at_last = answered_by peer (Some b)
 
       abbrev success : Machine
       success = enters phase.Success no_confirm_data at_last
@@ -172,8 +169,8 @@ module _ (shared : Shared) (s : Start) (a : Answer s) where
       unfolding send_encryption_key
       sends_keys d true identity =
           quiet refl λ ltk. quiet refl λ ediv. quiet refl λ rand. says ltk refl λ u. says (ediv, rand) refl λ v.
-          sends_identity d (some (sent_keys ltk.0 ediv.0 rand.0)) identity
-      sends_keys d false identity = sends_identity (plus 5 d) none identity
+          sends_identity d (Some (sent_keys ltk.0 ediv.0 rand.0)) identity
+      sends_keys d false identity = sends_identity (plus 5 d) None identity
 
       -- the answer, which the terminal reads for this, names them as the request does
       sends_all_keys :
@@ -208,7 +205,7 @@ module _ (shared : Shared) (s : Start) (a : Answer s) where
         rw (identification_in_lem x.0.0 x.1.0 x.0.1 x.1.1, same_size)
         (takes_identity d (suc (suc n)) _ _ _ p (refl, refl, refl) identity_named (rw (p, q) (omega arith))))
     takes_keys d n b p c false q =
-        takes_identity (plus 2 d) n none _ b p tt identity_named (rw (p, q) (omega arith))
+        takes_identity (plus 2 d) n None _ b p tt identity_named (rw (p, q) (omega arith))
 
     -- keys are exchanged where both bond
     takes_keys_or_succeeds :
@@ -216,13 +213,13 @@ module _ (shared : Shared) (s : Start) (a : Answer s) where
         TerminalFollows shared s (plus 16 d) (after_srand shared s a e bonds p) (encrypted n)
         (bind (await_keys_or_succeed (bonded b) bonds) entered)
     takes_keys_or_succeeds d n b c true p = takes_keys d n b p c encryption_named refl
-    takes_keys_or_succeeds d n b c false p = succeeds none _ n (rw p (omega arith)) _ b tt (plus 13 d) none
+    takes_keys_or_succeeds d n b c false p = succeeds None _ n (rw p (omega arith)) _ b tt (plus 13 d) None
 
     -- the report that encryption is on
     takes_report :
         (d n : ℕ) (b : BondInformation) → n ≡ 3 + own_entries →
         TerminalFollows shared s (plus 17 d) (after_srand shared s a e (both s a) refl)
-        (having shared entry true (e ∷ []) [] none (encryption_on ∷ []) n)
+        (having shared entry true (e ∷ []) [] None (encryption_on ∷ []) n)
         (ret (enters phase.WaitingLinkEncrypted no_confirm_data (bonded b)))
     unfolding handle_input transition handle_link_encrypted_success want_bonding
     takes_report d n b c =
@@ -231,7 +228,7 @@ module _ (shared : Shared) (s : Start) (a : Answer s) where
   -- ---- the stages before
   module _ (entry : Entry shared Central (chosen s a)) where
     abbrev unencrypted : ℕ → Local (pairing shared)
-    unencrypted n = having shared entry false [] [] none [] n
+    unencrypted n = having shared entry false [] [] None [] n
 
     -- c1 as the terminal computes it is c1 as the protocol has it
     confirm_value_lem : (mrand r : Nonce) → confirm_value (keyed mrand) unbonded r ≡ confirm_of shared s a r
@@ -245,7 +242,7 @@ module _ (shared : Shared) (s : Start) (a : Answer s) where
         (ret (enters (phase.WaitingPairingRandom (confirm_of shared s a srand.0)) (keyed mrand) unbonded))
     unfolding handle_input transition handle_pairing_random enable_encryption negotiated_key_size enter
     takes_srand d n mrand srand c =
-        takes λ u. rw (word_in_lem srand.0.0 srand.1, confirm_value_lem mrand srand.0, same_refl, same_size)
+        takes λ u. rw (word_in_lem srand.0.0 srand.1, confirm_value_lem mrand srand.0, same_number, same_size)
         (quiet refl λ b.
         takes_report entry (encryption_of shared s a mrand srand.0) d (suc n) b (omega arith))
 
@@ -261,7 +258,7 @@ module _ (shared : Shared) (s : Start) (a : Answer s) where
 
     -- Mconfirm is sent, of a temporary key that is the method's
     sends_mconfirm :
-        (d n : ℕ) (t : Word128) → t ≡ tk → n ≡ 1 + own_entries →
+        (d n : ℕ) (t : ℕ) → t ≡ tk → n ≡ 1 + own_entries →
         TerminalFollows shared s (plus 23 d) (confirms shared s a) (unencrypted n)
         (bind (begin_confirm (preq s a) (pres s a) unbonded t) entered)
     unfolding begin_confirm send_mconfirm confirm_value enter
@@ -271,7 +268,7 @@ module _ (shared : Shared) (s : Start) (a : Answer s) where
   begins_method :
       (d : ℕ) (way : PairingMethod) → chosen s a ≡ way →
       TerminalFollows shared s (plus 25 d) (after_response shared s a way)
-      (having shared (unchosen shared Central) false [] [] none [] 1)
+      (having shared (unchosen shared Central) false [] [] None [] 1)
       (bind (begin_method (preq s a) (pres s a) unbonded way) entered)
   unfolding begin_method enter handle_input transition handle_pass_key_input begin_confirm
   begins_method d method.JustWorks e = sends_mconfirm (no_entry shared (rw e)) (plus 2 d) 1 _ (rw e) (rw e)
@@ -287,7 +284,7 @@ module _ (shared : Shared) (s : Start) (a : Answer s) where
 pub terminal_follows :
     (shared : Shared) (s : Start) (d : ℕ) →
     TerminalFollows shared s (plus 26 d) (after_request shared s)
-    (having shared (unchosen shared Central) false [] [] none [] 0)
+    (having shared (unchosen shared Central) false [] [] None [] 0)
     (ret (fresh_terminal s))
 unfolding fresh_terminal lesc_switch handle_input transition handle_pairing_response
 terminal_follows shared s d =

@@ -2,9 +2,7 @@
 -- The fair link, document 01's section "The fair link of demand 3", up to the word "run"; what is claimed of runs stands
 -- in FairRuns. The order is the section's, but that a word stands before it is used. The terminal is the central, the
 -- head the peripheral. Assumes nothing.
-use Rattle.std.specs.Prelude.{ℕ, zero, suc, ◌≤◌, ◌<◌, ◌≡◌, Bool, true, false, cond, not, ◌&&◌, ◌||◌, List, [], ◌∷◌, ◌++◌, eqb, length, drop, replicate}
-use Rattle.std.proofs.Math.Option.{Option, none, some}
-use Rattle.octets.specs.declared.Word128.{Word128}
+use Rattle.std.specs.Prelude.{ℕ, zero, suc, ◌≤◌, ◌<◌, ◌≡◌, Bool, true, false, cond, not, ◌&&◌, ◌||◌, List, [], ◌∷◌, ◌++◌, eqb, length, drop, replicate, Option, Some, None, Result, Ok, Err}
 use Rattle.types.specs.Types.{command_code, default_features, feature_octets, least_key_size, largest_key_size}
 use Rattle.types.specs.declared.types.Command.TheVariants as command
 use Rattle.types.specs.declared.types.KeyDistributionFlags.{KeyDistributionFlags}
@@ -13,17 +11,10 @@ use Rattle.util.specs.declared.util.PairingMethod.{PairingMethod}
 use Rattle.util.specs.declared.util.PairingMethod.TheVariants as method
 use Rattle.util.specs.declared.util.PassKeyEntryAction.TheVariants as action
 use Rattle.bond.specs.declared.Address.{Address}
-use Rattle.bond.specs.declared.OptionBond.TheVariants as option
 use Rattle.host.specs.Calls.{packet_command, packet_body, kind_of, longest}
 use Rattle.host.specs.declared.call.Call.{Call}
 use Rattle.host.specs.declared.call.Call.TheVariants as call
 use Rattle.answer.specs.Answers.{pass_key_max}
-use Rattle.answer.specs.declared.AddressResult.{AddressResult}
-use Rattle.answer.specs.declared.AddressResult.TheVariants as address-result
-use Rattle.answer.specs.declared.BondResult.{BondResult}
-use Rattle.answer.specs.declared.BondResult.TheVariants as bond-result
-use Rattle.answer.specs.declared.OptionBondResult.{OptionBondResult}
-use Rattle.answer.specs.declared.OptionBondResult.TheVariants as option-result
 use Rattle.machine.specs.Machine.{new_machine, lesc_switch}
 use Rattle.machine.specs.declared.Event.TheVariants as event
 use Rattle.machine.specs.declared.Input.{Input}
@@ -38,6 +29,8 @@ use Rattle.protocol.specs.Program.{ret, ask, Taken, got, wants, refused}
 use Rattle.protocol.specs.Ops.{delivered, Sort, a_verdict, a_flag, an_irk, an_address, a_nonce, a_pass_key, an_ltk, an_ediv, a_rand, a_bond, an_option_bond, Holds, reply_sort, reply_at, Program}
 use Rattle.protocol.specs.Handlers.{names_encryption_key, names_identity_key}
 use Rattle.protocol.specs.Step.{handle_input_by_role, play_of, Step, step}
+use Rattle.bond.specs.declared.Error.{Error}
+use Rattle.bond.specs.declared.BondInformation.{BondInformation}
 
 -- ---- Fresh
 
@@ -57,7 +50,7 @@ fresh_data local peer features =
       local_features = features;
       peer_features = default_features;
       pairing_method = method.JustWorks;
-      bond_information = option.None;
+      bond_information = None;
     }
 
 -- the terminal waits for the response to its request
@@ -94,7 +87,7 @@ pub record FairStart (s : Start) : Type 0 where
 -- or after: one number in a run. Where the method has an end show it, that is `shown`, at most 999,999, else `typed`,
 -- which is free. (There are two, since a start does not fix the method: the head's host may say that OOB data is there.)
 pub record Shared : Type 0 where
-  pub oob : Word128
+  pub oob : ℕ
   pub shown : ℕ
   pub typed : ℕ
   pub shown_most : shown ≤ pass_key_max
@@ -113,17 +106,17 @@ abbrev pub pass_key_typed : Shared → Machine → ℕ
 pass_key_typed shared m = cond (shows m.pairing_data.pairing_method) shared.shown shared.typed
 
 -- all verdicts are 0, and a passkey that is drawn is the one shown; all other answers are free
-abbrev pub address_given : AddressResult → Type 0
-address_given (address-result.Ok a) = Unit {0}
-address_given (address-result.Err e) = ⊥
+abbrev pub address_given : Result Address Error → Type 0
+address_given (Ok a) = Unit {0}
+address_given (Err e) = ⊥
 
-abbrev pub bond_given : BondResult → Type 0
-bond_given (bond-result.Ok b) = Unit {0}
-bond_given (bond-result.Err e) = ⊥
+abbrev pub bond_given : Result BondInformation Error → Type 0
+bond_given (Ok b) = Unit {0}
+bond_given (Err e) = ⊥
 
-abbrev pub option_bond_given : OptionBondResult → Type 0
-option_bond_given (option-result.Ok b) = Unit {0}
-option_bond_given (option-result.Err e) = ⊥
+abbrev pub option_bond_given : Result (Option BondInformation) Error → Type 0
+option_bond_given (Ok b) = Unit {0}
+option_bond_given (Err e) = ⊥
 
 abbrev pub FairReply : Shared → (sort : Sort) → Holds sort → Type 0
 FairReply shared a_verdict x = x ≡ delivered
@@ -207,7 +200,7 @@ link_of Central this that = record { terminal = this; head = that }
 link_of Peripheral this that = record { terminal = that; head = this }
 
 abbrev pub fresh_end : Machine → List QueuedPacket → End
-fresh_end m queue = record { machine = m; queue = queue; due = []; open_step = none; calls = []; had_oob = false }
+fresh_end m queue = record { machine = m; queue = queue; due = []; open_step = None; calls = []; had_oob = false }
 
 abbrev pub request_of : Start → QueuedPacket
 request_of s = record { code = command_code command.PairingRequest; payload = feature_octets s.request }
@@ -274,9 +267,9 @@ pub record FairHost (shared : Shared) (r : Role) (L : Link) (g : Given) (answers
 
 -- a step that wants is open, with its input and answers
 abbrev pub open_after : Outcome → Given → List ℕ → Option OpenStep
-open_after outcome.Ended g answers = none
-open_after outcome.Wants g answers = some (record { given = g; answers = answers })
-open_after (outcome.Refused n) g answers = none
+open_after outcome.Ended g answers = None
+open_after outcome.Wants g answers = Some (record { given = g; answers = answers })
+open_after (outcome.Refused n) g answers = None
 
 abbrev pub had_oob_after : Given → Bool → Bool
 had_oob_after (a_packet p) had = had
@@ -341,14 +334,14 @@ pub data Move (shared : Shared) (L : Link) : MoveKind → Link → Type 0 where
   -- an end with no open step gets its oldest queued packet, which leaves the queue
   take_packet :
       (r : Role) (p : QueuedPacket) (queue : List QueuedPacket) (answers : List ℕ) →
-      (end_of r L).open_step ≡ none → (end_of r L).queue ≡ p ∷ queue → report_due (end_of r L).due ≡ false →
+      (end_of r L).open_step ≡ None → (end_of r L).queue ≡ p ∷ queue → report_due (end_of r L).due ≡ false →
       FairHost shared r L (a_packet p) answers →
       Move shared L an_input
       (link_after shared r L (a_packet p) answers queue (end_of r L).due (calls_at shared r L (a_packet p) answers))
   -- .. or an event due there, which is due no more
   take_event :
       (r : Role) (e : Due) (earlier later : List Due) (answers : List ℕ) →
-      (end_of r L).open_step ≡ none → (end_of r L).due ≡ earlier ++ (e ∷ later) → MayTake L r e →
+      (end_of r L).open_step ≡ None → (end_of r L).due ≡ earlier ++ (e ∷ later) → MayTake L r e →
       FairHost shared r L (an_event e) answers →
       Move shared L an_input
       (link_after shared r L (an_event e) answers (end_of r L).queue (earlier ++ later)
@@ -357,7 +350,7 @@ pub data Move (shared : Shared) (L : Link) : MoveKind → Link → Type 0 where
   -- counts once, when first listed
   run_again :
       (r : Role) (g : Given) (kept : List ℕ) (x : ℕ) (added : List ℕ) →
-      (end_of r L).open_step ≡ some (record { given = g; answers = kept }) →
+      (end_of r L).open_step ≡ Some (record { given = g; answers = kept }) →
       FairHost shared r L g (kept ++ (x ∷ added)) →
       Move shared L a_re_run
       (link_after shared r L g (kept ++ (x ∷ added)) (end_of r L).queue (end_of r L).due
@@ -393,4 +386,4 @@ pub record Run (shared : Shared) (L : Link) (moves inputs : ℕ) (L₁ : Link) :
 pub record Idle (e : End) : Type 0 where
   pub none_queued : e.queue ≡ []
   pub none_due : e.due ≡ []
-  pub none_open : e.open_step ≡ none
+  pub none_open : e.open_step ≡ None

@@ -2,7 +2,7 @@
 -- Demand 3, the rest of document 01's section "The fair link of demand 3": what every run from a fair start comes to.
 -- First the words of the claim, in the section's order, then the claim, which is one of whole lists of moves. Assumes
 -- nothing.
-use Rattle.std.specs.Prelude.{ℕ, ◌+◌, ◌*◌, ◌≤◌, ◌≡◌, Bool, true, false, cond, not, ◌&&◌, List, [], ◌∷◌, length, replicate}
+use Rattle.std.specs.Prelude.{ℕ, ◌+◌, ◌*◌, ◌≤◌, ◌≡◌, Bool, true, false, cond, not, ◌&&◌, List, [], ◌∷◌, length, replicate, Some, None}
 use Rattle.octets.specs.Octets.{word_of}
 use Rattle.crypto.specs.Crypto.{masked_of}
 use Rattle.crypto.specs.declared.crypto.LongTermKey.{LongTermKey}
@@ -15,7 +15,6 @@ use Rattle.util.specs.declared.util.PairingMethod.TheVariants as method
 use Rattle.util.specs.declared.util.PassKeyEntryAction.{PassKeyEntryAction}
 use Rattle.util.specs.declared.util.PassKeyEntryAction.TheVariants as action
 use Rattle.bond.specs.declared.BondInformation.{BondInformation}
-use Rattle.bond.specs.declared.OptionBond.TheVariants as option
 use Rattle.host.specs.Calls.{longest}
 use Rattle.host.specs.declared.call.Call.{Call}
 use Rattle.host.specs.declared.call.Call.TheVariants as call
@@ -26,7 +25,6 @@ use Rattle.host.specs.declared.call.Packet.TheVariants as packet
 use Rattle.machine.specs.Machine.{wishes, result_of}
 use Rattle.machine.specs.declared.Input.TheVariants as input
 use Rattle.machine.specs.declared.Machine.{Machine}
-use Rattle.machine.specs.declared.PairingResult.TheVariants as result
 use Rattle.machine.specs.declared.Phase.TheVariants as phase
 use Rattle.machine.specs.declared.Role.{Role}
 use Rattle.machine.specs.declared.Role.TheVariants.{Central, Peripheral}
@@ -165,12 +163,12 @@ on_identity_information m payload =
 -- the head waits for the identity key: it is in neither Success nor Error, and would read an IdentityInformation as that
 -- key, so that its bond would have it
 pub record WaitsForIdentityKey (m : Machine) : Type 0 where
-  pub pending : result_of m.phase ≡ result.Pending
+  pub pending : result_of m.phase ≡ None
   pub reads :
       (payload : List ℕ) → length payload ≡ 16 →
       let s = on_identity_information m payload in
       (s.outcome ≡ outcome.Ended)
-      × ((b : BondInformation) × (s.machine.pairing_data.bond_information ≡ option.Some b)
+      × ((b : BondInformation) × (s.machine.pairing_data.bond_information ≡ Some b)
       × (b.identity.irk.0 ≡ word_of payload))
 
 -- the one excepted case: no common wish to bond, and the request names the terminal's identity key
@@ -224,7 +222,7 @@ ediv_rands_in cs = of_all ediv_rand_in cs
 -- a machine's bond holds this LTK, cut to the negotiated size, and this EDIV and Rand
 pub record HoldsKeys (size : ℕ) (ltk : LongTermKey) (identification : Identification) (m : Machine) : Type 0 where
   pub bond : BondInformation
-  pub has : m.pairing_data.bond_information ≡ option.Some bond
+  pub has : m.pairing_data.bond_information ≡ Some bond
   pub cut : bond.ltk ≡ masked_of size ltk
   pub same_ediv : bond.ediv ≡ identification.ediv
   pub same_rand : bond.rand ≡ identification.rand

@@ -1,11 +1,9 @@
 -- Believed: the archive's contracts and demand 3 rest on it.
 -- What the handlers of both roles are made of: the Rust's `?`, payloads, the data that a handler changes, and the parts
 -- that legacy_peripheral.rs and legacy_central.rs have in the same words. Assumes nothing.
-use Rattle.std.specs.Prelude.{ℕ, Bool, true, false, cond, List, [], ◌∷◌, eqb, ltb, length, get_or, take, drop}
-use Rattle.std.proofs.Math.Option.{Option, none, some}
+use Rattle.std.specs.Prelude.{ℕ, Bool, true, false, cond, List, [], ◌∷◌, eqb, ltb, length, get_or, take, drop, Option, Some, None, Result, Ok, Err}
 use Rattle.octets.specs.Answer.{Answer, refused, accepted}
 use Rattle.octets.specs.Octets.{from_octets, word_of}
-use Rattle.octets.specs.declared.Word128.{Word128}
 use Rattle.crypto.specs.Crypto.{masked_of}
 use Rattle.crypto.specs.declared.crypto.IdentityResolvingKey.{IdentityResolvingKey}
 use Rattle.crypto.specs.declared.crypto.LongTermKey.{LongTermKey}
@@ -25,8 +23,6 @@ use Rattle.bond.specs.declared.BondInformation.{BondInformation}
 use Rattle.bond.specs.declared.Error.{Error}
 use Rattle.bond.specs.declared.Error.TheVariants.{Security, InvalidState, InvalidValue}
 use Rattle.bond.specs.declared.Identity.{Identity}
-use Rattle.bond.specs.declared.OptionBond.{OptionBond}
-use Rattle.bond.specs.declared.OptionBond.TheVariants as option
 use Rattle.host.specs.declared.call.Packet.{Packet}
 use Rattle.host.specs.declared.call.Packet.TheVariants as packet
 use Rattle.host.specs.declared.call.ConnectionEvent.{ConnectionEvent}
@@ -36,16 +32,8 @@ use Rattle.host.specs.declared.call.Question.TheVariants as question
 use Rattle.host.specs.declared.call.Draw.{Draw}
 use Rattle.host.specs.declared.call.Draw.TheVariants as draw
 use Rattle.host.specs.declared.call.Call.TheVariants as call
-use Rattle.answer.specs.declared.AddressResult.{AddressResult}
-use Rattle.answer.specs.declared.AddressResult.TheVariants as address-result
-use Rattle.answer.specs.declared.BondResult.{BondResult}
-use Rattle.answer.specs.declared.BondResult.TheVariants as bond-result
-use Rattle.answer.specs.declared.OptionBondResult.{OptionBondResult}
-use Rattle.answer.specs.declared.OptionBondResult.TheVariants as option-result
-use Rattle.machine.specs.Machine.{kept_by, no_confirm_data, want_bonding, zero_word}
-use Rattle.machine.specs.declared.ConfirmBytes.TheVariants as stored
+use Rattle.machine.specs.Machine.{kept_by, no_confirm_data, want_bonding}
 use Rattle.machine.specs.declared.ConfirmPhaseData.{ConfirmPhaseData}
-use Rattle.machine.specs.declared.Event.{Event}
 use Rattle.machine.specs.declared.Event.TheVariants as event
 use Rattle.machine.specs.declared.Input.{Input}
 use Rattle.machine.specs.declared.Input.TheVariants as input
@@ -84,8 +72,8 @@ abbrev pub ◌>>◌ : {A B : Type 0} → Handler A → Handler B → Handler B
 
 -- `.map_err(..)?` of what may not be there
 abbrev pub or_fail : {A : Type 0} → PairingData → Error → Option A → Handler A
-or_fail d e none = fail d e
-or_fail d e (some a) = give a
+or_fail d e None = fail d e
+or_fail d e (Some a) = give a
 
 -- ---- host calls in a handler
 
@@ -111,52 +99,52 @@ asked q = ask (call.Ask q) (λ r. give r)
 abbrev pub drawn : (n : Draw) → Handler (Holds (draw_reply n))
 drawn n = ask (call.Draw n) (λ r. give r)
 
-abbrev pub on_address : PairingData → AddressResult → Handler Address
-on_address d (address-result.Ok a) = give a
-on_address d (address-result.Err e) = fail d e
+abbrev pub on_address : PairingData → Result Address Error → Handler Address
+on_address d (Ok a) = give a
+on_address d (Err e) = fail d e
 
 -- `ops.local_identity_address()?`
 abbrev pub identity_address : PairingData → Handler Address
 identity_address d = ask (call.Ask question.LocalIdentityAddress) (on_address d)
 
-abbrev pub on_bond : PairingData → BondResult → Handler BondInformation
-on_bond d (bond-result.Ok b) = give b
-on_bond d (bond-result.Err e) = fail d e
+abbrev pub on_bond : PairingData → Result BondInformation Error → Handler BondInformation
+on_bond d (Ok b) = give b
+on_bond d (Err e) = fail d e
 
-abbrev pub on_option_bond : PairingData → OptionBondResult → Handler OptionBond
-on_option_bond d (option-result.Ok b) = give b
-on_option_bond d (option-result.Err e) = fail d e
+abbrev pub on_option_bond : PairingData → Result (Option BondInformation) Error → Handler (Option BondInformation)
+on_option_bond d (Ok b) = give b
+on_option_bond d (Err e) = fail d e
 
 -- `ops.try_enable_bonded_encryption()?`
-abbrev pub bonded_encryption : PairingData → Handler OptionBond
+abbrev pub bonded_encryption : PairingData → Handler (Option BondInformation)
 bonded_encryption d = ask call.EnableBondedEncryption (on_option_bond d)
 
 -- ---- payloads
 
 -- exactly 16 octets
-unfoldable pub word_in : List ℕ → Option Word128
-word_in payload = cond (eqb (length payload) 16) (some (word_of payload)) none
+unfoldable pub word_in : List ℕ → Option ℕ
+word_in payload = cond (eqb (length payload) 16) (Some (word_of payload)) None
 
 abbrev pub answered : {A : Type 0} → Answer A → Option A
-answered (refused n) = none
-answered (accepted a) = some a
+answered (refused n) = None
+answered (accepted a) = Some a
 
 -- a request or a response: six octets that are a record. The Rust panics on more; document 01 has InvalidParameters
 unfoldable pub features_in : List ℕ → Option PairingFeatures
-features_in payload = cond (eqb (length payload) feature_size) (answered (features_of payload)) none
+features_in payload = cond (eqb (length payload) feature_size) (answered (features_of payload)) None
 
 -- EDIV and Rand, the first 10 octets; none under 10
 unfoldable pub identification_in : List ℕ → Option (ℕ × ℕ)
 identification_in payload =
-    cond (ltb (length payload) 10) none
-    (some (from_octets (take 2 payload), from_octets (take 8 (drop 2 payload))))
+    cond (ltb (length payload) 10) None
+    (Some (from_octets (take 2 payload), from_octets (take 8 (drop 2 payload))))
 
 -- address kind 0 or 1, then six octets. The Rust panics under 7; document 01 has InvalidValue
 unfoldable pub address_in : List ℕ → Option Address
 address_in payload =
-    cond (ltb (length payload) 7) none
-    (cond (ltb 1 (get_or payload 0 0)) none
-    (some (address_of (take 7 payload))))
+    cond (ltb (length payload) 7) None
+    (cond (ltb 1 (get_or payload 0 0)) None
+    (Some (address_of (take 7 payload))))
 
 -- the reason in PairingFailed. The Rust panics on none; document 01 has UnspecifiedReason
 unfoldable pub reason_in : List ℕ → Reason
@@ -181,19 +169,19 @@ names_identity_key f = flag identity_key_flag f.0
 abbrev pub enters : Phase → ConfirmPhaseData → PairingData → Machine
 enters p c d = record { phase = p; confirm_data = kept_by p c; pairing_data = d }
 
-abbrev pub confirm_data : Word128 → List ℕ → List ℕ → ConfirmPhaseData
-confirm_data tk preq pres = record { tk = tk; preq = preq; pres = pres; local_nonce = record { 0 = zero_word } }
+abbrev pub confirm_data : ℕ → List ℕ → List ℕ → ConfirmPhaseData
+confirm_data tk preq pres = record { tk = tk; preq = preq; pres = pres; local_nonce = record { 0 = 0 } }
 
 -- with a temporary key, and no nonce yet
-abbrev pub with_tk : ConfirmPhaseData → Word128 → ConfirmPhaseData
+abbrev pub with_tk : ConfirmPhaseData → ℕ → ConfirmPhaseData
 with_tk c tk = confirm_data tk c.preq c.pres
 
 abbrev pub with_nonce : ConfirmPhaseData → Nonce → ConfirmPhaseData
 with_nonce c n = record { tk = c.tk; preq = c.preq; pres = c.pres; local_nonce = n }
 
 -- a passkey as a temporary key
-abbrev pub pass_key_tk : ℕ → Word128
-pass_key_tk n = record { low = n; high = 0 }
+abbrev pub pass_key_tk : ℕ → ℕ
+pass_key_tk n = n
 
 -- ---- pairing data with other parts
 
@@ -208,7 +196,7 @@ with_features local peer method d =
       bond_information = d.bond_information;
     }
 
-abbrev pub with_bond : OptionBond → PairingData → PairingData
+abbrev pub with_bond : Option BondInformation → PairingData → PairingData
 with_bond b d =
     record {
       local_address = d.local_address;
@@ -231,9 +219,9 @@ with_peer_address a d =
     }
 
 -- `if let Some(ref mut bond)`
-abbrev pub change_bond : (BondInformation → BondInformation) → OptionBond → OptionBond
-change_bond f (option.Some b) = option.Some (f b)
-change_bond f option.None = option.None
+abbrev pub change_bond : (BondInformation → BondInformation) → Option BondInformation → Option BondInformation
+change_bond f (Some b) = Some (f b)
+change_bond f None = None
 
 abbrev pub on_bond_of : (BondInformation → BondInformation) → PairingData → PairingData
 on_bond_of f d = with_bond (change_bond f d.bond_information) d
@@ -307,7 +295,7 @@ on_pass_key_cancel (input.Event event.PassKeyCancel) p q = p
 on_pass_key_cancel (input.Event (event.PassKeyInput n)) p q = q
 on_pass_key_cancel (input.Event (event.OobDataReceived w)) p q = q
 
-abbrev pub on_oob_data : {A : Type 0} → Input → (Word128 → A) → A → A
+abbrev pub on_oob_data : {A : Type 0} → Input → (ℕ → A) → A → A
 on_oob_data (input.Command code) p q = q
 on_oob_data (input.Event (event.LinkEncryptedResult b)) p q = q
 on_oob_data (input.Event event.PassKeyConfirm) p q = q
@@ -343,16 +331,16 @@ addr_type_flag a = address_type a
 
 -- entering a state: PairingFailed in Error; in Success, where there is a bond, its update where both want to bond, then
 -- PairingComplete. Failures do not matter
-abbrev pub complete : Machine → ℕ → OptionBond → Program Machine
+abbrev pub complete : Machine → ℕ → Option BondInformation → Program Machine
 complete m level b = ask (call.SendConnectionEvent (notice.PairingComplete level b)) (λ r. ret m)
 
 abbrev pub enter_bonded : Machine → BondInformation → Bool → Program Machine
-enter_bonded m b true = ask (call.UpdateBondInformation b) (λ r. complete m b.security_level (option.Some b))
-enter_bonded m b false = complete m b.security_level option.None
+enter_bonded m b true = ask (call.UpdateBondInformation b) (λ r. complete m b.security_level (Some b))
+enter_bonded m b false = complete m b.security_level None
 
-abbrev pub enter_success : Machine → OptionBond → Program Machine
-enter_success m (option.Some b) = enter_bonded m b (want_bonding m.pairing_data)
-enter_success m option.None = ret m
+abbrev pub enter_success : Machine → Option BondInformation → Program Machine
+enter_success m (Some b) = enter_bonded m b (want_bonding m.pairing_data)
+enter_success m None = ret m
 
 abbrev pub enter_phase : Machine → Phase → Program Machine
 enter_phase m (phase.Error e) = ask (call.SendConnectionEvent (notice.PairingFailed e)) (λ r. ret m)
@@ -380,7 +368,7 @@ entered (err d e) = enter (enters (phase.Error e) no_confirm_data d)
 unfoldable pub store_confirm_bytes : ConfirmPhaseData → PairingData → List ℕ → Handler Machine
 store_confirm_bytes c d payload = do
   confirm ← or_fail d InvalidValue (word_in payload)
-  give (enters (phase.WaitingPassKeyInput (stored.Some (record { 0 = confirm }))) c d)
+  give (enters (phase.WaitingPassKeyInput (Some (record { 0 = confirm }))) c d)
 
 -- the LTK that one end distributes, EDIV and Rand, where they were agreed; `kept` is what this end keeps of them
 unfoldable pub send_encryption_key : PairingData → (LongTermKey → ℕ → ℕ → PairingData) → Bool → Handler PairingData
@@ -407,7 +395,7 @@ unfoldable pub enable_encryption : PairingData → LongTermKey → Handler Machi
 enable_encryption d stk = do
   let size = negotiated_key_size d
   bond ← ask (call.EnableEncryption (masked_of size stk) (security_level d.pairing_method) size) (on_bond d)
-  give (enters phase.WaitingLinkEncrypted no_confirm_data (with_bond (option.Some bond) d))
+  give (enters phase.WaitingLinkEncrypted no_confirm_data (with_bond (Some bond) d))
 
 unfoldable pub handle_encryption_information : PairingData → List ℕ → Handler Machine
 handle_encryption_information d payload = do

@@ -4,9 +4,7 @@
 -- Handlers: `addr_type_flag`, `enter`, `store_confirm_bytes`, `handle_encryption_information`,
 -- `handle_identity_information`. With the machine stand `result_of`, `is_encrypted` and `lesc_switch` (`from_lesc_switch`);
 -- `mark_timeout` is left out with the timer. Assumes nothing.
-use Rattle.std.specs.Prelude.{ℕ, Bool, true, false, List}
-use Rattle.octets.specs.Octets.{same_word}
-use Rattle.octets.specs.declared.Word128.{Word128}
+use Rattle.std.specs.Prelude.{ℕ, Bool, true, false, List, Option, Some, None, eqb}
 use Rattle.crypto.specs.Crypto.{c1_of, s1_of}
 use Rattle.crypto.specs.declared.crypto.Confirm.{Confirm}
 use Rattle.crypto.specs.declared.crypto.LongTermKey.{LongTermKey}
@@ -22,9 +20,7 @@ use Rattle.bond.specs.declared.Error.TheVariants.{Security, InvalidValue}
 use Rattle.host.specs.declared.call.ConnectionEvent.TheVariants as notice
 use Rattle.host.specs.declared.call.Draw.TheVariants as draw
 use Rattle.host.specs.declared.call.Packet.TheVariants as packet
-use Rattle.machine.specs.Machine.{no_confirm_data, want_bonding, zero_word}
-use Rattle.machine.specs.declared.ConfirmBytes.{ConfirmBytes}
-use Rattle.machine.specs.declared.ConfirmBytes.TheVariants as stored
+use Rattle.machine.specs.Machine.{no_confirm_data, want_bonding}
 use Rattle.machine.specs.declared.ConfirmPhaseData.{ConfirmPhaseData}
 use Rattle.machine.specs.declared.Input.{Input}
 use Rattle.machine.specs.declared.Machine.{Machine}
@@ -59,7 +55,7 @@ await_identity_or_send d false = send_all_keys d
 
 -- .. and before it the encryption key
 unfoldable pub await_keys : PairingData → Bool → Handler Machine
-await_keys d true = give (enters (phase.ReceivingKeys 0 (record { 0 = zero_word })) no_confirm_data d)
+await_keys d true = give (enters (phase.ReceivingKeys 0 (record { 0 = 0 })) no_confirm_data d)
 await_keys d false = await_identity_or_send d (names_identity_key d.peer_features.responder_key_distribution)
 
 abbrev pub await_keys_or_succeed : PairingData → Bool → Handler Machine
@@ -90,11 +86,11 @@ handle_peer_confirm c d payload = do
   answer_confirm c d (record { 0 = confirm })
 
 -- an early confirm value is answered as soon as the passkey is typed and Mconfirm is sent
-abbrev pub after_mconfirm : ConfirmPhaseData → PairingData → ConfirmBytes → Handler Machine
-after_mconfirm c d (stored.Some confirm) = answer_confirm c d confirm
-after_mconfirm c d stored.None = give (enters phase.WaitingPairingConfirm c d)
+abbrev pub after_mconfirm : ConfirmPhaseData → PairingData → Option Confirm → Handler Machine
+after_mconfirm c d (Some confirm) = answer_confirm c d confirm
+after_mconfirm c d None = give (enters phase.WaitingPairingConfirm c d)
 
-unfoldable pub handle_pass_key_input : ConfirmPhaseData → PairingData → ℕ → ConfirmBytes → Handler Machine
+unfoldable pub handle_pass_key_input : ConfirmPhaseData → PairingData → ℕ → Option Confirm → Handler Machine
 handle_pass_key_input c d input confirm_bytes = do
   c₁ ← send_mconfirm (with_tk c (pass_key_tk input)) d
   after_mconfirm c₁ d confirm_bytes
@@ -102,7 +98,7 @@ handle_pass_key_input c d input confirm_bytes = do
 -- ---- Protocol helpers
 
 -- with the temporary key known, the confirm value is sent and the peer's is awaited
-unfoldable pub begin_confirm : List ℕ → List ℕ → PairingData → Word128 → Handler Machine
+unfoldable pub begin_confirm : List ℕ → List ℕ → PairingData → ℕ → Handler Machine
 begin_confirm preq pres d tk = do
   c ← send_mconfirm (confirm_data tk preq pres) d
   give (enters phase.WaitingPairingConfirm c d)
@@ -111,15 +107,15 @@ begin_confirm preq pres d tk = do
 unfoldable pub begin_method : List ℕ → List ℕ → PairingData → PairingMethod → Handler Machine
 begin_method preq pres d method.OutOfBand = do
   send_event d notice.OobRequest
-  give (enters phase.WaitingOobData (confirm_data zero_word preq pres) d)
+  give (enters phase.WaitingOobData (confirm_data 0 preq pres) d)
 begin_method preq pres d (method.PassKeyEntry action.Display peripheral) = do
   tk ← drawn draw.PassKey
   send_event d (notice.PassKeyDisplay tk)
   begin_confirm preq pres d (pass_key_tk tk.0)
 begin_method preq pres d (method.PassKeyEntry action.Input peripheral) = do
   send_event d notice.PassKeyInput
-  give (enters (phase.WaitingPassKeyInput stored.None) (confirm_data zero_word preq pres) d)
-begin_method preq pres d method.JustWorks = begin_confirm preq pres d zero_word
+  give (enters (phase.WaitingPassKeyInput None) (confirm_data 0 preq pres) d)
+begin_method preq pres d method.JustWorks = begin_confirm preq pres d 0
 begin_method preq pres d method.NumericComparison = fail d (Security reason.AuthenticationRequirements)
 
 unfoldable pub handle_pairing_response : ConfirmPhaseData → PairingData → List ℕ → Handler Machine
@@ -138,7 +134,7 @@ unfoldable pub handle_pairing_random : ConfirmPhaseData → PairingData → Conf
 handle_pairing_random c d confirm payload = do
   word ← or_fail d (Security reason.InvalidParameters) (word_in payload)
   let srand : Nonce = record { 0 = word }
-  on_srand c d srand (same_word (confirm_value c d srand).0 confirm.0)
+  on_srand c d srand (eqb (confirm_value c d srand).0 confirm.0)
 
 -- the peripheral's keys are kept in the bond
 unfoldable pub handle_central_identification : PairingData → LongTermKey → List ℕ → Handler Machine

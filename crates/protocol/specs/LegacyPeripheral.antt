@@ -4,8 +4,7 @@
 -- Handlers: `addr_type_flag`, `enter`, `store_confirm_bytes`, `handle_encryption_information`,
 -- `handle_identity_information`. With the machine stand `result_of`, `is_encrypted` and `new_machine` (`new`);
 -- `mark_timeout` is left out with the timer. Assumes nothing.
-use Rattle.std.specs.Prelude.{ℕ, Bool, true, false, not, List}
-use Rattle.octets.specs.Octets.{same_word}
+use Rattle.std.specs.Prelude.{ℕ, Bool, true, false, not, List, Option, Some, None, eqb}
 use Rattle.crypto.specs.Crypto.{c1_of, s1_of}
 use Rattle.crypto.specs.declared.crypto.Confirm.{Confirm}
 use Rattle.crypto.specs.declared.crypto.Nonce.{Nonce}
@@ -30,9 +29,7 @@ use Rattle.host.specs.declared.call.ConnectionEvent.TheVariants as notice
 use Rattle.host.specs.declared.call.Draw.TheVariants as draw
 use Rattle.host.specs.declared.call.Packet.TheVariants as packet
 use Rattle.host.specs.declared.call.Question.TheVariants as question
-use Rattle.machine.specs.Machine.{no_confirm_data, want_bonding, zero_word}
-use Rattle.machine.specs.declared.ConfirmBytes.{ConfirmBytes}
-use Rattle.machine.specs.declared.ConfirmBytes.TheVariants as stored
+use Rattle.machine.specs.Machine.{no_confirm_data, want_bonding}
 use Rattle.machine.specs.declared.ConfirmPhaseData.{ConfirmPhaseData}
 use Rattle.machine.specs.declared.Input.{Input}
 use Rattle.machine.specs.declared.Machine.{Machine}
@@ -63,7 +60,7 @@ await_identity_or_succeed d false = give (enters phase.Success no_confirm_data d
 
 -- .. and before it the encryption key
 unfoldable pub await_keys : PairingData → Bool → Handler Machine
-await_keys d true = give (enters (phase.ReceivingKeys 0 (record { 0 = zero_word })) no_confirm_data d)
+await_keys d true = give (enters (phase.ReceivingKeys 0 (record { 0 = 0 })) no_confirm_data d)
 await_keys d false = await_identity_or_succeed d (identity_named d)
 
 -- its own keys are sent first, and whole; the bond keeps the LTK cut, EDIV and Rand
@@ -103,9 +100,9 @@ handle_peer_confirm c d payload = do
   answer_confirm c d (record { 0 = confirm })
 
 -- an early confirm value is answered as soon as the passkey is typed
-unfoldable pub handle_pass_key_input : ConfirmPhaseData → PairingData → ℕ → ConfirmBytes → Handler Machine
-handle_pass_key_input c d input (stored.Some confirm) = answer_confirm (with_tk c (pass_key_tk input)) d confirm
-handle_pass_key_input c d input stored.None = give (enters phase.WaitingPairingConfirm (with_tk c (pass_key_tk input)) d)
+unfoldable pub handle_pass_key_input : ConfirmPhaseData → PairingData → ℕ → Option Confirm → Handler Machine
+handle_pass_key_input c d input (Some confirm) = answer_confirm (with_tk c (pass_key_tk input)) d confirm
+handle_pass_key_input c d input None = give (enters phase.WaitingPairingConfirm (with_tk c (pass_key_tk input)) d)
 
 -- ---- Protocol helpers
 
@@ -132,7 +129,7 @@ responder_keys local peer offered =
 abbrev pub identity_offered : (named : Bool) → Handler Bool
 identity_offered true = do
   irk ← asked question.LocalIrk
-  give (not (same_word irk.0 zero_word))
+  give (not (eqb irk.0 0))
 identity_offered false = give false
 
 -- protection against a man in the middle, where there is any input or output
@@ -169,15 +166,15 @@ response_features local peer offered bonding available =
 unfoldable pub begin_method : List ℕ → List ℕ → PairingData → PairingMethod → Handler Machine
 begin_method preq pres d method.OutOfBand = do
   send_event d notice.OobRequest
-  give (enters phase.WaitingOobData (confirm_data zero_word preq pres) d)
+  give (enters phase.WaitingOobData (confirm_data 0 preq pres) d)
 begin_method preq pres d (method.PassKeyEntry central action.Display) = do
   tk ← drawn draw.PassKey
   send_event d (notice.PassKeyDisplay tk)
   give (enters phase.WaitingPairingConfirm (confirm_data (pass_key_tk tk.0) preq pres) d)
 begin_method preq pres d (method.PassKeyEntry central action.Input) = do
   send_event d notice.PassKeyInput
-  give (enters (phase.WaitingPassKeyInput stored.None) (confirm_data zero_word preq pres) d)
-begin_method preq pres d method.JustWorks = give (enters phase.WaitingPairingConfirm (confirm_data zero_word preq pres) d)
+  give (enters (phase.WaitingPassKeyInput None) (confirm_data 0 preq pres) d)
+begin_method preq pres d method.JustWorks = give (enters phase.WaitingPairingConfirm (confirm_data 0 preq pres) d)
 begin_method preq pres d method.NumericComparison = fail d (Security reason.AuthenticationRequirements)
 
 unfoldable pub handle_pairing_request : PairingData → List ℕ → Handler Machine
@@ -206,7 +203,7 @@ unfoldable pub handle_pairing_random : ConfirmPhaseData → PairingData → Conf
 handle_pairing_random c d confirm payload = do
   word ← or_fail d (Security reason.InvalidParameters) (word_in payload)
   let mrand : Nonce = record { 0 = word }
-  on_mrand c d mrand (same_word (confirm_value c d mrand).0 confirm.0)
+  on_mrand c d mrand (eqb (confirm_value c d mrand).0 confirm.0)
 
 -- the central's EDIV and Rand are not kept: the bond has the peripheral's own
 unfoldable pub handle_central_identification : PairingData → List ℕ → Handler Machine

@@ -2,7 +2,7 @@
 -- The host as a handler sees it: PairingOps and the generator of pairing/mod.rs, as calls and their replies. What a
 -- verdict means, and which octets are forbidden, is said here, where an answer is read, and not in the handlers. Assumes
 -- nothing.
-use Rattle.std.specs.Prelude.{ℕ, ◌+◌, Bool, cond, List, eqb}
+use Rattle.std.specs.Prelude.{ℕ, ◌+◌, Bool, cond, List, eqb, Option, Result}
 use Rattle.crypto.specs.declared.crypto.IdentityResolvingKey.{IdentityResolvingKey}
 use Rattle.crypto.specs.declared.crypto.LongTermKey.{LongTermKey}
 use Rattle.crypto.specs.declared.crypto.Nonce.{Nonce}
@@ -17,10 +17,9 @@ use Rattle.host.specs.declared.call.Draw.TheVariants as draw
 use Rattle.host.specs.declared.call.Call.{Call}
 use Rattle.host.specs.declared.call.Call.TheVariants as call
 use Rattle.answer.specs.Answers.{answer_length, Found, found, wanted, refusal, on_found, verdict_at, flag_at, irk_at, address_at, nonce_at, pass_key_at, ltk_at, ediv_at, rand_at, encryption_at, bonded_at}
-use Rattle.answer.specs.declared.AddressResult.{AddressResult}
-use Rattle.answer.specs.declared.BondResult.{BondResult}
-use Rattle.answer.specs.declared.OptionBondResult.{OptionBondResult}
 use Rattle.protocol.specs.Program.{Prog, Taken, got, wants, refused}
+use Rattle.bond.specs.declared.Address.{Address}
+use Rattle.bond.specs.declared.BondInformation.{BondInformation}
 
 -- ---- replies
 
@@ -40,14 +39,14 @@ abbrev pub Holds : Sort → Type 0
 Holds a_verdict = Delivery
 Holds a_flag = Bool
 Holds an_irk = IdentityResolvingKey
-Holds an_address = AddressResult
+Holds an_address = Result Address Error
 Holds a_nonce = Nonce
 Holds a_pass_key = PassKey
 Holds an_ltk = LongTermKey
 Holds an_ediv = ℕ
 Holds a_rand = ℕ
-Holds a_bond = BondResult
-Holds an_option_bond = OptionBondResult
+Holds a_bond = Result BondInformation Error
+Holds an_option_bond = Result (Option BondInformation) Error
 
 abbrev pub question_reply : Question → Sort
 question_reply question.FindBond = a_flag

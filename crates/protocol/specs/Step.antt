@@ -7,12 +7,13 @@ use Rattle.octets.specs.Octets.{write_at}
 use Rattle.types.specs.Types.{command_of}
 use Rattle.host.specs.Calls.{calls_octets, longest}
 use Rattle.host.specs.declared.call.Call.{Call}
-use Rattle.answer.specs.Answers.{answer_refusal}
 use Rattle.machine.specs.declared.Input.{Input}
 use Rattle.machine.specs.declared.Input.TheVariants as input
 use Rattle.machine.specs.declared.Machine.{Machine}
 use Rattle.machine.specs.declared.Role.{Role}
 use Rattle.machine.specs.declared.Role.TheVariants.{Central, Peripheral}
+use Rattle.protocol.specs.declared.Refusal.{Refusal}
+use Rattle.protocol.specs.declared.Refusal.TheVariants.{ShortList, UnknownCommand, ForbiddenAnswer}
 use Rattle.protocol.specs.declared.Outcome.{Outcome}
 use Rattle.protocol.specs.declared.Outcome.TheVariants as outcome
 use Rattle.protocol.specs.declared.Stepped.{Stepped}
@@ -36,7 +37,7 @@ pub record Step : Type 0 where
   pub list : List ℕ
 
 -- a refused step: the machine given, counts 0, the list untouched
-abbrev pub refused_by : ℕ → Machine → List ℕ → Step
+abbrev pub refused_by : Refusal → Machine → List ℕ → Step
 refused_by n m list =
     record {
       stepped = record { outcome = outcome.Refused n; machine = m; read = 0; written = 0 };
@@ -55,7 +56,7 @@ reports o m list calls read =
 abbrev pub stepped : Machine → List ℕ → List Call → ℕ → Ending Machine → Step
 stepped m list calls read (ended m₁) = reports outcome.Ended m₁ list calls read
 stepped m list calls read wanting = reports outcome.Wants m list calls read
-stepped m list calls read refusing = refused_by answer_refusal m list
+stepped m list calls read refusing = refused_by ForbiddenAnswer m list
 
 abbrev pub is_accepted : {A : Type 0} → Answer A → Bool
 is_accepted (refused n) = false
@@ -70,7 +71,7 @@ is_known (input.Event e) = true
 -- another kind, a cut body or a forbidden value
 unfoldable pub step : Role → Machine → Input → List ℕ → List ℕ → List ℕ → Step
 step r m i payload answers list =
-    cond (ltb (length list) longest) (refused_by 1 m list)
+    cond (ltb (length list) longest) (refused_by ShortList m list)
     (cond (is_known i)
     (let x = play_of r m i payload answers in stepped m list x.calls x.place x.ending)
-    (refused_by 2 m list))
+    (refused_by UnknownCommand m list))

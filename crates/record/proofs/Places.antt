@@ -2,13 +2,14 @@
 use mathlib.Core.Path.{◌≡◌, refl, sym, ap, ◌∙◌}
 use mathlib.Core.List.{List, [], ◌∷◌, ◌++◌}
 use Prim.Native.Nat.{ℕ, ◌+◌}
+use Rattle.std.specs.Prelude.{is_some}
 use native.Mathlib.Nat.{le_of_eq}
 use lib.ListN.{length, get_or, take, drop}
 use lib.Seq.{take_at, take_all, drop_at, drop-drop, get_or-drop}
 use Rattle.octets.specs.Octets.{octets_of}
 use Rattle.octets.proofs.Octets.{word_length}
 use Rattle.types.specs.Types.{feature_octets}
-use Rattle.bond.specs.Bond.{address_octets, flag_code, bond_present, bond_or_zeros, option_bond_octets}
+use Rattle.bond.specs.Bond.{address_octets, flag_code, bond_or_zeros, option_bond_octets}
 use Rattle.machine.specs.declared.Machine.{Machine}
 use Rattle.record.specs.Record.{phase_octets, confirm_in, received_in, method_code, machine_octets, octets_at}
 use Rattle.record.proofs.Sizes.{phase_length, address_length, features_length, bond_length}
@@ -26,7 +27,7 @@ pub record Placed (m : Machine) (l : List ℕ) : Type 0 where
   pub local_features : octets_at 6 96 l ≡ feature_octets m.pairing_data.local_features
   pub peer_features : octets_at 6 102 l ≡ feature_octets m.pairing_data.peer_features
   pub method : get_or l 108 0 ≡ method_code m.pairing_data.pairing_method
-  pub present : get_or l 109 0 ≡ flag_code (bond_present m.pairing_data.bond_information)
+  pub present : get_or l 109 0 ≡ flag_code (is_some m.pairing_data.bond_information)
   pub bond : octets_at 51 110 l ≡ bond_or_zeros m.pairing_data.bond_information
 
 -- where a piece of n octets comes at place k, it is read there, and the rest comes behind it
@@ -72,7 +73,7 @@ placed m hp hq =
     let at108 : drop 108 l ≡ tail = behind l 102 6 (feature_octets d.peer_features) tail at102 (features_length d.peer_features) in
     let at109 : drop 109 l ≡ option_bond_octets d.bond_information =
     behind l 108 1 (method_code d.pairing_method ∷ []) (option_bond_octets d.bond_information) at108 refl in
-    let at110 : drop 110 l ≡ bond = behind l 109 1 (flag_code (bond_present d.bond_information) ∷ []) bond at109 refl in
+    let at110 : drop 110 l ≡ bond = behind l 109 1 (flag_code (is_some d.bond_information) ∷ []) bond at109 refl in
     record {
       phase = piece l 0 4 (phase_octets m.phase) p refl (phase_length m.phase);
       preq = piece l 4 7 c.preq q at4 hp;
@@ -86,6 +87,6 @@ placed m hp hq =
       local_features = piece l 96 6 (feature_octets d.local_features) f2 at96 (features_length d.local_features);
       peer_features = piece l 102 6 (feature_octets d.peer_features) tail at102 (features_length d.peer_features);
       method = octet l 108 (method_code d.pairing_method) (option_bond_octets d.bond_information) at108;
-      present = octet l 109 (flag_code (bond_present d.bond_information)) bond at109;
+      present = octet l 109 (flag_code (is_some d.bond_information)) bond at109;
       bond = ap (take 51) at110 ∙ take_all 51 bond (le_of_eq (bond_length d.bond_information));
     }

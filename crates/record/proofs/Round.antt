@@ -1,28 +1,26 @@
 -- A canonical machine is read back from its record, and a record that is read is the one of its machine, which is
 -- canonical. Assumes nothing.
+use borrow.Author.Rules.{rules}
 use mathlib.Core.Path.{◌≡◌, refl, subst, ◌∙◌}
 use mathlib.Core.Bool.{Bool, true, false, cond}
-use mathlib.Core.List.{List, [], ◌∷◌}
-use Prim.Native.Nat.{ℕ, zero, suc}
+use mathlib.Core.List.{List}
+use Prim.Native.Nat.{ℕ, ◌^◌, ◌<◌}
 use lib.Dec.{eqb}
-use lib.ListN.{length, get_or}
+use lib.ListN.{length}
 use borrow.Author.Tests.{eq-eqb}
+use Rattle.std.specs.Prelude.{bytes_eq}
+use Rattle.std.proofs.lemmas.Slice.Eq.{bytes_eq-Decides}
 use Rattle.octets.specs.Answer.{Answer, refused, accepted, and_then}
-use Rattle.octets.specs.declared.Word128.{Word128}
-use Rattle.types.specs.declared.types.Reason.{Reason}
+use Rattle.octets.proofs.Octets.{word_back}
 use Rattle.types.proofs.Tables.{refused≢accepted}
-use Rattle.bond.specs.declared.Error.TheVariants.{Security}
-use Rattle.bond.proofs.Back.{WordValued, AddressValued, OptionBondValued, word_read_lem, address_back}
-use Rattle.machine.specs.Machine.{kept_by, first_phase}
+use Rattle.bond.proofs.Back.{AddressValued, OptionBondValued, address_back}
+use Rattle.machine.specs.Machine.{kept_by}
 use Rattle.machine.specs.declared.Role.{Role}
-use Rattle.machine.specs.declared.Role.TheVariants.{Central, Peripheral}
 use Rattle.machine.specs.declared.Phase.{Phase}
-use Rattle.machine.specs.declared.Phase.TheVariants.{Error}
 use Rattle.machine.specs.declared.Machine.{Machine}
 use Rattle.machine.proofs.Canonical.{OfRole, Canonical, kept_kept}
-use Rattle.record.specs.Record.{record_size, confirm_in, received_in, machine_octets, octets_at, word_at, reason_at, errors_with, error_of, pass_keys_with}
-use Rattle.record.specs.Record.{phases_with, phase_of, phase_at, pairing_data_of, confirm_data_of, same_octets, canonical, machine_of}
-use Rattle.record.proofs.Compared.{same_refl, same_true, own}
+use Rattle.record.specs.Record.{record_size, confirm_in, received_in, machine_octets, octets_at, word_at, error_of, pass_key_of}
+use Rattle.record.specs.Record.{phase_of, phase_at, pairing_data_of, confirm_data_of, canonical, machine_of}
 use Rattle.record.proofs.Sizes.{record_length}
 use Rattle.record.proofs.Back.{phase_back, features_back, method_back, option_bond_back}
 use Rattle.record.proofs.Places.{Placed, placed}
@@ -31,10 +29,10 @@ use Rattle.record.proofs.Places.{Placed, placed}
 pub record Valued (m : Machine) : Type 0 where
   pub preq : length m.confirm_data.preq ≡ 7
   pub pres : length m.confirm_data.pres ≡ 7
-  pub tk : WordValued m.confirm_data.tk
-  pub nonce : WordValued m.confirm_data.local_nonce.0
-  pub confirm : WordValued (confirm_in m.phase)
-  pub received : WordValued (received_in m.phase)
+  pub tk : m.confirm_data.tk < 2 ^ 128
+  pub nonce : m.confirm_data.local_nonce.0 < 2 ^ 128
+  pub confirm : confirm_in m.phase < 2 ^ 128
+  pub received : received_in m.phase < 2 ^ 128
   pub local : AddressValued m.pairing_data.local_address
   pub peer : AddressValued m.pairing_data.peer_address
   pub bond : OptionBondValued m.pairing_data.bond_information
@@ -63,23 +61,29 @@ module _ (m : Machine) (l : List ℕ) (p : Placed m l) (v : Valued m) where
       )
 
   confirm_read : confirm_data_of l ≡ m.confirm_data
+  unfolding confirm_data_of
   confirm_read =
       let c = m.confirm_data in
-      rw (p.preq, p.pres, p.tk, word_read_lem c.tk v.tk, p.nonce, word_read_lem c.local_nonce.0 v.nonce)
+      rw (p.preq, p.pres, p.tk, word_back c.tk v.tk, p.nonce, word_back c.local_nonce.0 v.nonce)
 
   phase_read : (r : Role) → OfRole r m.phase → phase_at r l ≡ accepted m.phase
+  unfolding phase_at
   phase_read r h =
-      rw (p.phase, p.confirm, word_read_lem (confirm_in m.phase) v.confirm, p.received, word_read_lem (received_in m.phase) v.received)
+      rw (p.phase, p.confirm, word_back (confirm_in m.phase) v.confirm, p.received, word_back (received_in m.phase) v.received)
       (phase_back r m.phase h)
 
   machine_read_lem : (r : Role) → Canonical r m → length l ≡ record_size → machine_of r l ≡ canonical l m
   unfolding machine_of
   machine_read_lem r c h = rw (eq-eqb (length l) record_size h, phase_read r c.of_role, pairing_read, confirm_read, c.kept)
 
+own : (m : Machine) → canonical (machine_octets m) m ≡ accepted m
+unfolding canonical
+own m = rw ((bytes_eq-Decides (machine_octets m) (machine_octets m)).1 refl)
+
 pub read_back : (r : Role) (m : Machine) → Canonical r m → Valued m → machine_of r (machine_octets m) ≡ accepted m
 read_back r m c v =
     machine_read_lem m (machine_octets m) (placed m v.preq v.pres) v r c (record_length m v.preq v.pres)
-    ∙ own (machine_octets m) m (same_refl (machine_octets m))
+    ∙ own m
 
 -- ---- what was read
 
@@ -100,14 +104,14 @@ pub record WasRead (r : Role) (l : List ℕ) (m : Machine) : Type 0 where
 
 module _ (r : Role) (l : List ℕ) {m : Machine} where
   was_read : machine_of r l ≡ accepted m → WasRead r l m
-  unfolding machine_of
+  unfolding machine_of canonical
   was_read e =
       after (phase_at r l) _ (tested (eqb (length l) record_size) _ 20 e).1 (λ p e1 f1.
       after (pairing_data_of l) _ f1 (λ d e2 f2.
       let m' : Machine = record { phase = p; confirm_data = kept_by p (confirm_data_of l); pairing_data = d } in
-      let t = tested (same_octets (machine_octets m') l) (accepted m') 25 f2 in
+      let t = tested (bytes_eq (machine_octets m') l) (accepted m') 25 f2 in
       let is : m' ≡ m = cc t.1 in
-      subst (λ (x : Machine). WasRead r l x) is (record { phase = e1; kept = refl; same = same_true (machine_octets m') l t.0 })))
+      subst (λ (x : Machine). WasRead r l x) is (record { phase = e1; kept = refl; same = (bytes_eq-Decides (machine_octets m') l).0 t.0 })))
 
   pub written_same : machine_of r l ≡ accepted m → machine_octets m ≡ l
   written_same e = (was_read e).same
@@ -118,34 +122,12 @@ abbrev OfRoleIfRead : Role → Answer Phase → Type 0
 OfRoleIfRead r (refused n) = Unit {0}
 OfRoleIfRead r (accepted p) = OfRole r p
 
-abbrev AllOfRole : Role → List (Answer Phase) → Type 0
-AllOfRole r [] = Unit {0}
-AllOfRole r (x ∷ l) = OfRoleIfRead r x × AllOfRole r l
-
-entry_of_role : (r : Role) (l : List (Answer Phase)) → AllOfRole r l → (n v : ℕ) → OfRoleIfRead r (get_or l v (refused n))
-entry_of_role r [] h n v = tt
-entry_of_role r (x ∷ l) h n zero = h.0
-entry_of_role r (x ∷ l) h n (suc v) = entry_of_role r l h.1 n v
-
-security_of_role : (r : Role) (x : Answer Reason) → OfRoleIfRead r (and_then x (λ e. accepted (Error (Security e))))
-security_of_role r (refused n) = tt
-security_of_role r (accepted e) = tt
-
-error_of_role : (r : Role) (kind detail : ℕ) → OfRoleIfRead r (error_of kind detail)
-error_of_role r kind detail = entry_of_role r (refused 21 ∷ errors_with detail) (tt, (security_of_role r (reason_at detail), (tt, (tt, (tt, (tt, tt)))))) 21 kind
-
-first_of_role : (r : Role) → OfRole r (first_phase r)
-first_of_role Central = refl
-first_of_role Peripheral = refl
-
-phase_of_role : (r : Role) (o : List ℕ) (confirm received : Word128) → OfRoleIfRead r (phase_of r o confirm received)
-unfolding phase_of
-phase_of_role r o confirm received =
-    let pass_key = entry_of_role r (pass_keys_with confirm) (tt, (tt, tt)) 21 (get_or o 3 0) in
-    let error = error_of_role r (get_or o 1 0) (get_or o 2 0) in
-    entry_of_role r (phases_with r o confirm received) (first_of_role r, (pass_key, (tt, (tt, (tt, (tt, (tt, (tt, (tt, (tt, (error, tt))))))))))) 21 (get_or o 0 0)
+phase_of_role : (r : Role) (o : List ℕ) (confirm received : ℕ) → OfRoleIfRead r (phase_of r o confirm received)
+unfolding pass_key_of error_of phase_of
+phase_of_role r o confirm received = search rules
 
 pub read_canonical : (r : Role) (l : List ℕ) {m : Machine} → machine_of r l ≡ accepted m → Canonical r m
+unfolding phase_at
 read_canonical r l {m} e =
     let w = was_read r l e in
     record {

@@ -1,10 +1,8 @@
 -- Believed: the archive's contracts rest on it.
 -- The machine record: a machine of either role as 161 octets, and the machine that is read of them. Assumes nothing.
-use Rattle.std.specs.Prelude.{ℕ, Bool, true, false, cond, ◌&&◌, List, [], ◌∷◌, ◌++◌, map, eqb, length, get_or, take, drop}
-use Rattle.std.proofs.Math.Option.{Option, none, some}
+use Rattle.std.specs.Prelude.{ℕ, cond, List, [], ◌∷◌, ◌++◌, map, eqb, length, get_or, take, drop, bytes_eq, Option, Some, None, is_some}
 use Rattle.octets.specs.Answer.{Answer, refused, accepted, and_then}
 use Rattle.octets.specs.Octets.{octets_of, word_of}
-use Rattle.octets.specs.declared.Word128.{Word128}
 use Rattle.types.specs.Capabilities.{io_of}
 use Rattle.types.specs.Types.{reasons, oob_of, feature_octets, features_with}
 use Rattle.types.specs.declared.types.Reason.{Reason}
@@ -15,35 +13,19 @@ use Rattle.util.specs.Method.{CENTRAL_DISPLAYS, PERIPHERAL_DISPLAYS, BOTH_INPUT}
 use Rattle.util.specs.declared.util.PassKeyEntryAction.TheVariants.{Display, Input}
 use Rattle.util.specs.declared.util.PairingMethod.{PairingMethod}
 use Rattle.util.specs.declared.util.PairingMethod.TheVariants.{JustWorks, NumericComparison, PassKeyEntry, OutOfBand}
-use Rattle.bond.specs.Bond.{address_octets, address_of, failed_body, bond_of, option_bond_octets}
-use Rattle.bond.specs.declared.Error.{Error}
+use Rattle.crypto.specs.declared.crypto.Confirm.{Confirm}
+use Rattle.bond.specs.Bond.{address_octets, address_of, failed_body, flag_code, bond_of, option_bond_octets}
 use Rattle.bond.specs.declared.Error.TheVariants.{Security, InvalidState, InvalidValue, OutOfMemory, Host}
 use Rattle.bond.specs.declared.BondInformation.{BondInformation}
-use Rattle.bond.specs.declared.OptionBond.{OptionBond}
-use Rattle.bond.specs.declared.OptionBond.TheVariants as option
-use Rattle.machine.specs.Machine.{zero_word, kept_by, first_phase, new_data, new_machine}
+use Rattle.machine.specs.Machine.{kept_by, first_phase, new_data, new_machine}
 use Rattle.machine.specs.declared.Role.{Role}
 use Rattle.machine.specs.declared.PairingData.{PairingData}
 use Rattle.machine.specs.declared.ConfirmPhaseData.{ConfirmPhaseData}
-use Rattle.machine.specs.declared.ConfirmBytes.{ConfirmBytes}
-use Rattle.machine.specs.declared.ConfirmBytes.TheVariants as stored
 use Rattle.machine.specs.declared.Phase.{Phase}
 use Rattle.machine.specs.declared.Phase.TheVariants as phase
 use Rattle.machine.specs.declared.Machine.{Machine}
-use Rattle.record.specs.declared.TryReason.{TryReason}
-use Rattle.record.specs.declared.TryReason.TheVariants as try-reason
-use Rattle.record.specs.declared.TryPhase.{TryPhase}
-use Rattle.record.specs.declared.TryPhase.TheVariants as try-phase
-use Rattle.record.specs.declared.TryFeatures.{TryFeatures}
-use Rattle.record.specs.declared.TryFeatures.TheVariants as try-features
-use Rattle.record.specs.declared.TryMethod.{TryMethod}
-use Rattle.record.specs.declared.TryMethod.TheVariants as try-method
-use Rattle.record.specs.declared.TryOptionBond.{TryOptionBond}
-use Rattle.record.specs.declared.TryOptionBond.TheVariants as try-bond
-use Rattle.record.specs.declared.TryPairingData.{TryPairingData}
-use Rattle.record.specs.declared.TryPairingData.TheVariants as try-data
-use Rattle.record.specs.declared.ReadMachine.{ReadMachine}
-use Rattle.record.specs.declared.Reading.TheVariants as reading
+use Rattle.record.specs.declared.RecordError.{RecordError}
+use Rattle.record.specs.declared.RecordError.TheVariants as error
 
 abbrev pub record_size : ℕ
 record_size = 161
@@ -64,15 +46,11 @@ phase_code (phase.ReceivingKeys n k) = 8
 phase_code phase.Success = 9
 phase_code (phase.Error e) = 10
 
-abbrev pub stored_code : ConfirmBytes → ℕ
-stored_code (stored.Some c) = 1
-stored_code stored.None = 0
-
 -- the phase of ReceivingKeys or the failed body of an error, then 1 where a confirm value is stored
 abbrev pub phase_detail : Phase → List ℕ
 phase_detail phase.WaitingPairingRequest = 0 ∷ 0 ∷ 0 ∷ []
 phase_detail phase.WaitingPairingResponse = 0 ∷ 0 ∷ 0 ∷ []
-phase_detail (phase.WaitingPassKeyInput b) = 0 ∷ 0 ∷ stored_code b ∷ []
+phase_detail (phase.WaitingPassKeyInput b) = 0 ∷ 0 ∷ flag_code (is_some b) ∷ []
 phase_detail phase.WaitingOobData = 0 ∷ 0 ∷ 0 ∷ []
 phase_detail phase.WaitingPairingConfirm = 0 ∷ 0 ∷ 0 ∷ []
 phase_detail (phase.WaitingPairingRandom c) = 0 ∷ 0 ∷ 0 ∷ []
@@ -88,39 +66,39 @@ phase_octets p = phase_code p ∷ phase_detail p
 
 -- ---- octets 50 to 81, what the phase itself holds
 
-abbrev pub stored_confirm : ConfirmBytes → Word128
-stored_confirm (stored.Some c) = c.0
-stored_confirm stored.None = zero_word
+abbrev pub stored_confirm : Option Confirm → ℕ
+stored_confirm (Some c) = c.0
+stored_confirm None = 0
 
 -- the peer's confirm value, or the one stored while a passkey was typed
-unfoldable pub confirm_in : Phase → Word128
-confirm_in phase.WaitingPairingRequest = zero_word
-confirm_in phase.WaitingPairingResponse = zero_word
+unfoldable pub confirm_in : Phase → ℕ
+confirm_in phase.WaitingPairingRequest = 0
+confirm_in phase.WaitingPairingResponse = 0
 confirm_in (phase.WaitingPassKeyInput b) = stored_confirm b
-confirm_in phase.WaitingOobData = zero_word
-confirm_in phase.WaitingPairingConfirm = zero_word
+confirm_in phase.WaitingOobData = 0
+confirm_in phase.WaitingPairingConfirm = 0
 confirm_in (phase.WaitingPairingRandom c) = c.0
-confirm_in phase.WaitingLinkEncrypted = zero_word
-confirm_in phase.WaitingIdentitityInformation = zero_word
-confirm_in phase.WaitingIdentitityAddressInformation = zero_word
-confirm_in (phase.ReceivingKeys n k) = zero_word
-confirm_in phase.Success = zero_word
-confirm_in (phase.Error e) = zero_word
+confirm_in phase.WaitingLinkEncrypted = 0
+confirm_in phase.WaitingIdentitityInformation = 0
+confirm_in phase.WaitingIdentitityAddressInformation = 0
+confirm_in (phase.ReceivingKeys n k) = 0
+confirm_in phase.Success = 0
+confirm_in (phase.Error e) = 0
 
 -- the key that was received
-unfoldable pub received_in : Phase → Word128
-received_in phase.WaitingPairingRequest = zero_word
-received_in phase.WaitingPairingResponse = zero_word
-received_in (phase.WaitingPassKeyInput b) = zero_word
-received_in phase.WaitingOobData = zero_word
-received_in phase.WaitingPairingConfirm = zero_word
-received_in (phase.WaitingPairingRandom c) = zero_word
-received_in phase.WaitingLinkEncrypted = zero_word
-received_in phase.WaitingIdentitityInformation = zero_word
-received_in phase.WaitingIdentitityAddressInformation = zero_word
+unfoldable pub received_in : Phase → ℕ
+received_in phase.WaitingPairingRequest = 0
+received_in phase.WaitingPairingResponse = 0
+received_in (phase.WaitingPassKeyInput b) = 0
+received_in phase.WaitingOobData = 0
+received_in phase.WaitingPairingConfirm = 0
+received_in (phase.WaitingPairingRandom c) = 0
+received_in phase.WaitingLinkEncrypted = 0
+received_in phase.WaitingIdentitityInformation = 0
+received_in phase.WaitingIdentitityAddressInformation = 0
 received_in (phase.ReceivingKeys n k) = k.0
-received_in phase.Success = zero_word
-received_in (phase.Error e) = zero_word
+received_in phase.Success = 0
+received_in (phase.Error e) = 0
 
 -- ---- octet 108, the method
 
@@ -168,7 +146,7 @@ machine_octets m =
 abbrev pub octets_at : ℕ → ℕ → List ℕ → List ℕ
 octets_at n at l = take n (drop at l)
 
-abbrev pub word_at : ℕ → List ℕ → Word128
+abbrev pub word_at : ℕ → List ℕ → ℕ
 word_at at l = word_of (octets_at 16 at l)
 
 -- the reason of a detail octet: all of them, from 0 on
@@ -185,21 +163,21 @@ errors_with detail =
     ∷ accepted (phase.Error (Host detail))
     ∷ []
 
-abbrev pub error_of : ℕ → ℕ → Answer Phase
+unfoldable pub error_of : ℕ → ℕ → Answer Phase
 error_of kind detail = get_or (refused 21 ∷ errors_with detail) kind (refused 21)
 
 -- without and with the stored confirm value
-abbrev pub pass_keys_with : Word128 → List (Answer Phase)
+abbrev pub pass_keys_with : ℕ → List (Answer Phase)
 pass_keys_with confirm =
-    accepted (phase.WaitingPassKeyInput stored.None)
-    ∷ accepted (phase.WaitingPassKeyInput (stored.Some (record { 0 = confirm })))
+    accepted (phase.WaitingPassKeyInput None)
+    ∷ accepted (phase.WaitingPassKeyInput (Some (record { 0 = confirm })))
     ∷ []
 
-abbrev pub pass_key_of : ℕ → Word128 → Answer Phase
+unfoldable pub pass_key_of : ℕ → ℕ → Answer Phase
 pass_key_of present confirm = get_or (pass_keys_with confirm) present (refused 21)
 
 -- the phases in the order of their numbers, with octets 1 to 3, the confirm value and the key that stand in the record
-abbrev pub phases_with : Role → List ℕ → Word128 → Word128 → List (Answer Phase)
+abbrev pub phases_with : Role → List ℕ → ℕ → ℕ → List (Answer Phase)
 phases_with r o confirm received =
     accepted (first_phase r)
     ∷ pass_key_of (get_or o 3 0) confirm
@@ -214,10 +192,10 @@ phases_with r o confirm received =
     ∷ error_of (get_or o 1 0) (get_or o 2 0)
     ∷ []
 
-unfoldable pub phase_of : Role → List ℕ → Word128 → Word128 → Answer Phase
+unfoldable pub phase_of : Role → List ℕ → ℕ → ℕ → Answer Phase
 phase_of r o confirm received = get_or (phases_with r o confirm received) (get_or o 0 0) (refused 21)
 
-abbrev pub phase_at : Role → List ℕ → Answer Phase
+unfoldable pub phase_at : Role → List ℕ → Answer Phase
 phase_at r l = phase_of r (octets_at 4 0 l) (word_at 50 l) (word_at 66 l)
 
 -- a refusal by another number
@@ -236,15 +214,15 @@ features_at s =
 abbrev pub method_of : ℕ → Answer PairingMethod
 method_of v = get_or (map accepted methods) v (refused 23)
 
-abbrev pub bond_answer : Option BondInformation → Answer OptionBond
-bond_answer none = refused 24
-bond_answer (some b) = accepted (option.Some b)
+abbrev pub bond_answer : Option BondInformation → Answer (Option BondInformation)
+bond_answer None = refused 24
+bond_answer (Some b) = accepted (Some b)
 
 -- a bond is read only where it is present
-abbrev pub bonds_of : List ℕ → List (Answer OptionBond)
-bonds_of s = accepted option.None ∷ bond_answer (bond_of s) ∷ []
+abbrev pub bonds_of : List ℕ → List (Answer (Option BondInformation))
+bonds_of s = accepted None ∷ bond_answer (bond_of s) ∷ []
 
-abbrev pub option_bond_of : ℕ → List ℕ → Answer OptionBond
+abbrev pub option_bond_of : ℕ → List ℕ → Answer (Option BondInformation)
 option_bond_of present s = get_or (bonds_of s) present (refused 24)
 
 unfoldable pub pairing_data_of : List ℕ → Answer PairingData
@@ -262,7 +240,7 @@ pairing_data_of l =
       bond_information = bond;
     })))))
 
-abbrev pub confirm_data_of : List ℕ → ConfirmPhaseData
+unfoldable pub confirm_data_of : List ℕ → ConfirmPhaseData
 confirm_data_of l =
     record {
       tk = word_at 18 l;
@@ -271,15 +249,9 @@ confirm_data_of l =
       local_nonce = record { 0 = word_at 34 l };
     }
 
-abbrev pub same_octets : List ℕ → List ℕ → Bool
-same_octets [] [] = true
-same_octets [] (y ∷ m) = false
-same_octets (x ∷ l) [] = false
-same_octets (x ∷ l) (y ∷ m) = eqb x y && same_octets l m
-
 -- only the record of the machine that was read: so what its phase does not hold is zero
-abbrev pub canonical : List ℕ → Machine → Answer Machine
-canonical l m = cond (same_octets (machine_octets m) l) (accepted m) (refused 25)
+unfoldable pub canonical : List ℕ → Machine → Answer Machine
+canonical l m = cond (bytes_eq (machine_octets m) l) (accepted m) (refused 25)
 
 -- refused by 20: the length; 21: the phase; 22: features; 23: the method; 24: the bond; 25: not the record of what was read
 unfoldable pub machine_of : Role → List ℕ → Answer Machine
@@ -290,36 +262,15 @@ machine_of r l =
     canonical l (record { phase = p; confirm_data = kept_by p (confirm_data_of l); pairing_data = d }))))
     (refused 20)
 
--- ---- what the code's reading gives
+-- the number by which an error of reading refuses
+abbrev pub record_refusal : RecordError → ℕ
+record_refusal error.Length = 20
+record_refusal error.Phase = 21
+record_refusal error.Features = 22
+record_refusal error.Method = 23
+record_refusal error.Bond = 24
+record_refusal error.NotCanonical = 25
 
-abbrev pub try_reason : TryReason → Answer Reason
-try_reason (try-reason.Ok r) = accepted r
-try_reason try-reason.InvalidValue = refused 21
-
-abbrev pub try_phase : TryPhase → Answer Phase
-try_phase (try-phase.Ok p) = accepted p
-try_phase try-phase.InvalidValue = refused 21
-
-abbrev pub try_features : TryFeatures → Answer PairingFeatures
-try_features (try-features.Ok f) = accepted f
-try_features try-features.InvalidValue = refused 22
-
-abbrev pub try_method : TryMethod → Answer PairingMethod
-try_method (try-method.Ok m) = accepted m
-try_method try-method.InvalidValue = refused 23
-
-abbrev pub try_option_bond : TryOptionBond → Answer OptionBond
-try_option_bond (try-bond.Ok b) = accepted b
-try_option_bond try-bond.InvalidValue = refused 24
-
-abbrev pub try_pairing_data : TryPairingData → Answer PairingData
-try_pairing_data (try-data.Ok d) = accepted d
-try_pairing_data (try-data.Refused n) = refused n
-
--- what a refusal gives in a machine's place: a fresh head of no address
+-- what a step line that is refused gives in a machine's place: a fresh head of no address
 unfoldable pub no_machine : Machine
 no_machine = new_machine (new_data (record { kind = 0; addr = record { low = 0; high = 0 } }) (record { kind = 0; addr = record { low = 0; high = 0 } }) NoInputNoOutput)
-
-abbrev pub read_of : Answer Machine → ReadMachine
-read_of (refused n) = record { reading = reading.Refused n; machine = no_machine }
-read_of (accepted m) = record { reading = reading.Ok; machine = m }

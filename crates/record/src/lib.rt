@@ -1,88 +1,99 @@
 // The machine record: a machine of either role as 161 octets, and the machine that is read of them.
 #![tactic(auto)]
 
-ghost use Rattle.std.specs.Prelude.{◌≡◌, ◌∷◌, ◌++◌, ◌+◌, ◌≤◌, length, get_or};
-ghost use Rattle.octets.specs.Answer.{refused};
-ghost use Rattle.octets.specs.Octets.{octets_of, write_at, Written};
-ghost use Rattle.types.specs.Types.{feature_octets};
-ghost use Rattle.bond.specs.Bond.{address_octets, option_bond_octets};
-ghost use Rattle.record.specs.Record.{record_size, phase_octets, stored_code, confirm_in, received_in, method_code, machine_octets};
-ghost use Rattle.record.specs.Record.{octets_at, reason_at, error_of, pass_key_of, phase_of, phase_at, features_at, method_of, option_bond_of};
-ghost use Rattle.record.specs.Record.{pairing_data_of, confirm_data_of, same_octets, machine_of};
-ghost use Rattle.record.specs.Record.{try_reason, try_phase, try_features, try_method, try_option_bond, try_pairing_data, read_of};
+ghost use Rattle.std.specs.Prelude.{◌≡◌, get_or};
+ghost use Rattle.octets.specs.Answer.{answer_of};
+ghost use Rattle.octets.specs.Octets.{Written};
+ghost use Rattle.machine.specs.Machine.{first_phase};
+ghost use Rattle.record.specs.Record.{phase_octets, confirm_in, received_in, method_code, machine_octets};
+ghost use Rattle.record.specs.Record.{record_refusal, octets_at, reason_at, error_of, pass_key_of, phase_at, features_at, method_of, option_bond_of};
+ghost use Rattle.record.specs.Record.{pairing_data_of, confirm_data_of, canonical, machine_of};
 
-use bond::{Address, BdAddr, Error, OptionBond, TryBond, flag, read_address, read_bond};
+use bond::{BondInformation, Error, encode_bond, read_address, read_bond, read_flag};
 use crypto::{Confirm, LongTermKey, Nonce};
-use machine::{ConfirmBytes, ConfirmPhaseData, Machine, PairingData, Phase, Role};
-use octets::{Word128, read_word, write, write_word};
-use types::{
-    AuthReq, IoCapabilities, KeyDistributionFlags, PairingFeatures, Reason, TryIoCapabilities,
-    TryUseOutOfBand, UseOutOfBand,
-};
-use util::{PairingMethod, PassKeyEntryAction};
+use machine::{ConfirmPhaseData, Machine, PairingData, Phase, Role};
+use octets::{octets_at, read_word, word_to_octets, write};
+use types::{AuthReq, IoCapabilities, KeyDistributionFlags, PairingFeatures, Reason, UseOutOfBand};
+use util::PairingMethod;
+use util::PassKeyEntryAction::{Display, Input};
 
-// Octet 3: 1 where a confirm value is stored.
-fn stored_code(confirm_bytes: ConfirmBytes) -> u8
-    ensures { result ≡ stored_code confirm_bytes }
-{
-    match confirm_bytes {
-        ConfirmBytes::Some(_) => 1,
-        ConfirmBytes::None => 0,
+pub const RECORD_SIZE: usize = 161;
+
+// Why octets are not the record of a machine, with the numbers of the refusals.
+#[derive(Clone, Copy, PartialEq, Eq)]
+pub enum RecordError {
+    // There are not 161
+    Length = 20,
+    // The first four stand for no phase
+    Phase = 21,
+    // One side's six stand for no features
+    Features = 22,
+    // Octet 108 stands for no method
+    Method = 23,
+    // Octet 109 is neither 0 nor 1, or no bond follows it
+    Bond = 24,
+    // They are not the record of the machine that was read of them
+    NotCanonical = 25,
+}
+
+impl From<RecordError> for u8 {
+    ghost from_gives = { λ e number. number ≡ record_refusal e };
+
+    fn from(e: RecordError) -> u8 {
+        e as u8
     }
 }
 
 // Octets 0 to 3.
+#[tactic(auto, unfolding(crate::specs::Record::phase_octets))]
 fn phase_octets(phase: Phase) -> [u8; 4]
     ensures { result ≡ phase_octets phase }
 {
     match phase {
-        Phase::WaitingPairingRequest => [0, 0, 0, 0],
-        Phase::WaitingPairingResponse => [0, 0, 0, 0],
-        Phase::WaitingPassKeyInput { confirm_bytes } => [1, 0, 0, stored_code(confirm_bytes)],
+        Phase::WaitingPairingRequest | Phase::WaitingPairingResponse => [0, 0, 0, 0],
+        Phase::WaitingPassKeyInput { confirm_bytes } => {
+            [1, 0, 0, u8::from(confirm_bytes.is_some())]
+        }
         Phase::WaitingOobData => [2, 0, 0, 0],
         Phase::WaitingPairingConfirm => [3, 0, 0, 0],
-        Phase::WaitingPairingRandom { peer_confirm: _ } => [4, 0, 0, 0],
+        Phase::WaitingPairingRandom { .. } => [4, 0, 0, 0],
         Phase::WaitingLinkEncrypted => [5, 0, 0, 0],
         Phase::WaitingIdentitityInformation => [6, 0, 0, 0],
         Phase::WaitingIdentitityAddressInformation => [7, 0, 0, 0],
-        Phase::ReceivingKeys {
-            phase,
-            received_ltk: _,
-        } => [8, phase, 0, 0],
+        Phase::ReceivingKeys { phase, .. } => [8, phase, 0, 0],
         Phase::Success => [9, 0, 0, 0],
         Phase::Error(e) => {
-            let body = e.failed_body();
-            [10, body[0], body[1], 0]
+            let [kind, detail] = e.failed_body();
+            [10, kind, detail, 0]
         }
     }
 }
 
 // The confirm value that a phase holds, or zeros.
-fn confirm_in(phase: Phase) -> Word128
+#[tactic(auto, unfolding(crate::specs::Record::confirm_in))]
+fn confirm_in(phase: Phase) -> u128
     ensures { result ≡ confirm_in phase }
 {
     match phase {
-        Phase::WaitingPassKeyInput { confirm_bytes } => match confirm_bytes {
-            ConfirmBytes::Some(c) => c.0,
-            ConfirmBytes::None => Word128 { low: 0, high: 0 },
-        },
-        Phase::WaitingPairingRandom { peer_confirm } => peer_confirm.0,
-        _ => Word128 { low: 0, high: 0 },
+        Phase::WaitingPassKeyInput {
+            confirm_bytes: Some(confirm),
+        }
+        | Phase::WaitingPairingRandom {
+            peer_confirm: confirm,
+        } => confirm.0,
+        _ => 0,
     }
 }
 
 // The received key that a phase holds, or zeros.
-fn received_in(phase: Phase) -> Word128
+#[tactic(auto, unfolding(crate::specs::Record::received_in))]
+fn received_in(phase: Phase) -> u128
     ensures { result ≡ received_in phase }
 {
-    let Phase::ReceivingKeys {
-        phase: _,
-        received_ltk,
-    } = phase
-    else {
-        return Word128 { low: 0, high: 0 };
-    };
-    received_ltk.0
+    match phase {
+        Phase::ReceivingKeys { received_ltk, .. } => received_ltk.0,
+        _ => 0,
+    }
 }
 
 // Octet 108.
@@ -93,338 +104,204 @@ fn method_code(method: PairingMethod) -> u8
         PairingMethod::JustWorks => 0,
         PairingMethod::NumericComparison => 1,
         PairingMethod::PassKeyEntry {
-            central,
-            peripheral,
-        } => match central {
-            PassKeyEntryAction::Display => match peripheral {
-                PassKeyEntryAction::Display => 6,
-                PassKeyEntryAction::Input => 2,
-            },
-            PassKeyEntryAction::Input => match peripheral {
-                PassKeyEntryAction::Display => 3,
-                PassKeyEntryAction::Input => 4,
-            },
-        },
+            central: Display,
+            peripheral: Input,
+        } => 2,
+        PairingMethod::PassKeyEntry {
+            central: Input,
+            peripheral: Display,
+        } => 3,
+        PairingMethod::PassKeyEntry {
+            central: Input,
+            peripheral: Input,
+        } => 4,
         PairingMethod::OutOfBand => 5,
+        PairingMethod::PassKeyEntry {
+            central: Display,
+            peripheral: Display,
+        } => 6,
     }
 }
 
-// Octets 0 to 17: the phase, preq and pres.
-// requires because it has no refusal: the caller has tested the slice's length.
-fn write_phase(record: &mut [u8], phase: Phase, preq: [u8; 7], pres: [u8; 7])
-    requires { 18 ≤ length «record».old }
-    ensures { «record».new ≡ write_at «record».old 0 (phase_octets phase ++ (preq ++ pres)) }
+// The record of a machine.
+pub fn machine_octets(machine: Machine) -> [u8; RECORD_SIZE]
+    ensures { result ≡ machine_octets machine }
 {
-    let octets = phase_octets(phase);
-    write(record, 0, &octets);
-    write(record, 4, &preq);
-    write(record, 11, &pres);
-}
-
-// Octets 18 to 81: tk, local_nonce, the confirm value and the received key.
-// requires because it has no refusal: the caller has tested the slice's length.
-fn write_words(record: &mut [u8], tk: Word128, nonce: Word128, confirm: Word128, received: Word128)
-    requires { 82 ≤ length «record».old }
-    ensures { «record».new ≡ write_at «record».old 18 (octets_of tk ++ (octets_of nonce ++ (octets_of confirm ++ octets_of received))) }
-{
-    write_word(record, 18, tk);
-    write_word(record, 34, nonce);
-    write_word(record, 50, confirm);
-    write_word(record, 66, received);
-}
-
-// Octets 82 to 107: the addresses and the features.
-// requires because it has no refusal: the caller has tested the slice's length.
-fn write_sides(record: &mut [u8], pairing: PairingData)
-    requires { 108 ≤ length «record».old }
-    ensures { «record».new ≡ write_at «record».old 82
-        (address_octets pairing.local_address
-        ++ (address_octets pairing.peer_address
-        ++ (feature_octets pairing.local_features
-        ++ feature_octets pairing.peer_features))) }
-{
-    let local = pairing.local_address.encode();
-    let peer = pairing.peer_address.encode();
-    let local_features = pairing.local_features.encode();
-    let peer_features = pairing.peer_features.encode();
-    write(record, 82, &local);
-    write(record, 89, &peer);
-    write(record, 96, &local_features);
-    write(record, 102, &peer_features);
-}
-
-// Octets 108 to 160: the method and the bond.
-// requires because it has no refusal: the caller has tested the slice's length.
-fn write_bond(record: &mut [u8], method: PairingMethod, bond: OptionBond)
-    requires { record_size ≤ length «record».old }
-    ensures { «record».new ≡ write_at «record».old 108 (method_code method ∷ option_bond_octets bond) }
-{
-    let front = [method_code(method), flag(bond.is_some())];
-    let octets = bond.encode();
-    write(record, 108, &front);
-    write(record, 110, &octets);
+    let phase = machine.phase;
+    let confirm = machine.confirm_data;
+    let pairing = machine.pairing_data;
+    let method = method_code(pairing.pairing_method);
+    let bond = pairing.bond_information;
+    let mut octets = [0; RECORD_SIZE];
+    write(&mut octets, 0, &phase_octets(phase));
+    write(&mut octets, 4, &confirm.preq);
+    write(&mut octets, 11, &confirm.pres);
+    write(&mut octets, 18, &word_to_octets(confirm.tk));
+    write(&mut octets, 34, &word_to_octets(confirm.local_nonce.0));
+    write(&mut octets, 50, &word_to_octets(confirm_in(phase)));
+    write(&mut octets, 66, &word_to_octets(received_in(phase)));
+    write(&mut octets, 82, &pairing.local_address.encode());
+    write(&mut octets, 89, &pairing.peer_address.encode());
+    write(&mut octets, 96, &pairing.local_features.encode());
+    write(&mut octets, 102, &pairing.peer_features.encode());
+    write(&mut octets, 108, &[method, u8::from(bond.is_some())]);
+    write(&mut octets, 110, &encode_bond(bond));
+    octets
 }
 
 // Writes the record over the first 161 octets, and says so; a shorter slice is left as it was, and false.
 pub fn write_machine(machine: Machine, record: &mut [u8]) -> bool
     ensures { Written «record».old 0 (machine_octets machine) result «record».new }
 {
-    if record.len() < 161 {
-        return false;
-    }
-    let phase = machine.phase;
-    let confirm = machine.confirm_data;
-    let pairing = machine.pairing_data;
-    let preq = confirm.preq;
-    let pres = confirm.pres;
-    let method = pairing.pairing_method;
-    let bond = pairing.bond_information;
-    write_phase(record, phase, preq, pres);
-    write_words(
-        record,
-        confirm.tk,
-        confirm.local_nonce.0,
-        confirm_in(phase),
-        received_in(phase),
-    );
-    write_sides(record, pairing);
-    write_bond(record, method, bond);
-    true
-}
-
-// What reading a reason gives.
-#[derive(Clone, Copy)]
-enum TryReason {
-    Ok(Reason),
-    InvalidValue,
+    write(record, 0, &machine_octets(machine))
 }
 
 // The reason of a detail octet, all of them from 0 on.
-fn read_reason(detail: u8) -> TryReason
-    ensures { try_reason result ≡ reason_at detail }
+#[tactic(auto, using(crate::proofs::Back::reason_read))]
+fn read_reason(detail: u8) -> Result<Reason, RecordError>
+    ensures { answer_of record_refusal result ≡ reason_at detail }
 {
-    TryReason::Ok(match detail {
-        0x00 => Reason::Success,
-        0x01 => Reason::PasskeyEntryFailed,
-        0x02 => Reason::OobNotAvailable,
-        0x03 => Reason::AuthenticationRequirements,
-        0x04 => Reason::ConfirmValueFailed,
-        0x05 => Reason::PairingNotSupported,
-        0x06 => Reason::EncryptionKeySize,
-        0x07 => Reason::CommandNotSupported,
-        0x08 => Reason::UnspecifiedReason,
-        0x09 => Reason::RepeatedAttempts,
-        0x0a => Reason::InvalidParameters,
-        0x0b => Reason::DHKeyCheckFailed,
-        0x0c => Reason::NumericComparisonFailed,
-        0x0d => Reason::BrEdrPairingInProgress,
-        0x0e => Reason::GenerationNotAllowed,
-        0x0f => Reason::KeyRejected,
-        0x10 => Reason::Busy,
-        _ => return TryReason::InvalidValue,
-    })
-}
-
-// What reading a phase gives.
-#[derive(Clone, Copy)]
-enum TryPhase {
-    Ok(Phase),
-    InvalidValue,
+    match detail {
+        0x00 => Ok(Reason::Success),
+        0x01..=0x10 => Ok(Reason::from(detail)),
+        _ => Err(RecordError::Phase),
+    }
 }
 
 // The error of a kind and a detail.
-fn read_error(kind: u8, detail: u8) -> TryPhase
-    ensures { try_phase result ≡ error_of kind detail }
+#[tactic(auto, unfolding(crate::specs::Record::error_of))]
+fn read_error(kind: u8, detail: u8) -> Result<Phase, RecordError>
+    ensures { answer_of record_refusal result ≡ error_of kind detail }
 {
-    match kind {
-        1 => {
-            let TryReason::Ok(reason) = read_reason(detail) else {
-                return TryPhase::InvalidValue;
-            };
-            TryPhase::Ok(Phase::Error(Error::Security(reason)))
-        }
-        2 => TryPhase::Ok(Phase::Error(Error::InvalidState)),
-        3 => TryPhase::Ok(Phase::Error(Error::InvalidValue)),
-        4 => TryPhase::Ok(Phase::Error(Error::OutOfMemory)),
-        5 => TryPhase::Ok(Phase::Error(Error::Host(detail))),
-        _ => TryPhase::InvalidValue,
-    }
+    let error = match kind {
+        1 => Error::Security(read_reason(detail)?),
+        2 => Error::InvalidState,
+        3 => Error::InvalidValue,
+        4 => Error::OutOfMemory,
+        5 => Error::Host(detail),
+        _ => return Err(RecordError::Phase),
+    };
+    Ok(Phase::Error(error))
 }
 
 // WaitingPassKeyInput, by octet 3 without or with the stored confirm value.
-fn read_pass_key(stored: u8, confirm: Word128) -> TryPhase
-    ensures { try_phase result ≡ pass_key_of stored confirm }
+#[tactic(auto, unfolding(crate::specs::Record::pass_key_of))]
+fn read_pass_key(stored: u8, confirm: Confirm) -> Result<Phase, RecordError>
+    ensures { answer_of record_refusal result ≡ pass_key_of stored confirm.0 }
 {
-    match stored {
-        0 => TryPhase::Ok(Phase::WaitingPassKeyInput {
-            confirm_bytes: ConfirmBytes::None,
-        }),
-        1 => TryPhase::Ok(Phase::WaitingPassKeyInput {
-            confirm_bytes: ConfirmBytes::Some(Confirm(confirm)),
-        }),
-        _ => TryPhase::InvalidValue,
-    }
-}
-
-// The phase of octets 0 to 3, with the words that stand in the record.
-fn phase_of(role: Role, o: [u8; 4], confirm: Word128, received: Word128) -> TryPhase
-    ensures { try_phase result ≡ phase_of role o confirm received }
-{
-    match o[0] {
-        0 => match role {
-            Role::Central => TryPhase::Ok(Phase::WaitingPairingResponse),
-            Role::Peripheral => TryPhase::Ok(Phase::WaitingPairingRequest),
-        },
-        1 => read_pass_key(o[3], confirm),
-        2 => TryPhase::Ok(Phase::WaitingOobData),
-        3 => TryPhase::Ok(Phase::WaitingPairingConfirm),
-        4 => TryPhase::Ok(Phase::WaitingPairingRandom {
-            peer_confirm: Confirm(confirm),
-        }),
-        5 => TryPhase::Ok(Phase::WaitingLinkEncrypted),
-        6 => TryPhase::Ok(Phase::WaitingIdentitityInformation),
-        7 => TryPhase::Ok(Phase::WaitingIdentitityAddressInformation),
-        8 => TryPhase::Ok(Phase::ReceivingKeys {
-            phase: o[1],
-            received_ltk: LongTermKey(received),
-        }),
-        9 => TryPhase::Ok(Phase::Success),
-        10 => read_error(o[1], o[2]),
-        _ => TryPhase::InvalidValue,
-    }
-}
-
-// The phase that stands in a record.
-// requires because it has no refusal for a cut record: the caller has tested the slice's length.
-fn read_phase(role: Role, record: &[u8]) -> TryPhase
-    requires { record_size ≤ length «record».now }
-    ensures { try_phase result ≡ phase_at role «record».now }
-{
-    let o = [record[0], record[1], record[2], record[3]];
-    let confirm = read_word(record, 50);
-    let received = read_word(record, 66);
-    phase_of(role, o, confirm, received)
-}
-
-// What reading a record of features gives.
-#[derive(Clone, Copy)]
-enum TryFeatures {
-    Ok(PairingFeatures),
-    InvalidValue,
-}
-
-// The six octets of features at a place, of any key size.
-// requires because it has no refusal for a cut record: the caller has tested the slice's length.
-fn read_features(record: &[u8], at: usize) -> TryFeatures
-    requires { at + 6 ≤ length «record».now }
-    ensures { try_features result ≡ features_at (octets_at 6 at «record».now) }
-{
-    let TryIoCapabilities::Ok(io_capabilities) = IoCapabilities::try_from(record[at]) else {
-        return TryFeatures::InvalidValue;
-    };
-    let TryUseOutOfBand::Ok(use_oob) = UseOutOfBand::try_from(record[at + 1]) else {
-        return TryFeatures::InvalidValue;
-    };
-    TryFeatures::Ok(PairingFeatures {
-        io_capabilities,
-        use_oob,
-        security_properties: AuthReq(record[at + 2]),
-        maximum_encryption_key_size: record[at + 3],
-        initiator_key_distribution: KeyDistributionFlags(record[at + 4]),
-        responder_key_distribution: KeyDistributionFlags(record[at + 5]),
+    let is_stored = read_flag(stored).ok_or(RecordError::Phase)?;
+    Ok(Phase::WaitingPassKeyInput {
+        confirm_bytes: is_stored.then_some(confirm),
     })
 }
 
-// What reading a method gives.
-#[derive(Clone, Copy)]
-enum TryMethod {
-    Ok(PairingMethod),
-    InvalidValue,
+// The state that a role begins in.
+fn first_phase(role: Role) -> Phase
+    ensures { result ≡ first_phase role }
+{
+    match role {
+        Role::Central => Phase::WaitingPairingResponse,
+        Role::Peripheral => Phase::WaitingPairingRequest,
+    }
+}
+
+// The phase of octets 0 to 3, with the words of octets 50 to 81.
+#[tactic(auto, unfolding(crate::specs::Record::phase_at, crate::specs::Record::phase_of))]
+fn read_phase(role: Role, record: &[u8; RECORD_SIZE]) -> Result<Phase, RecordError>
+    ensures { answer_of record_refusal result ≡ phase_at role «record».now }
+{
+    let [code, detail, reason, stored] = octets_at::<4>(record, 0);
+    let confirm = Confirm(read_word(record, 50));
+    match code {
+        0 => Ok(first_phase(role)),
+        1 => read_pass_key(stored, confirm),
+        2 => Ok(Phase::WaitingOobData),
+        3 => Ok(Phase::WaitingPairingConfirm),
+        4 => Ok(Phase::WaitingPairingRandom {
+            peer_confirm: confirm,
+        }),
+        5 => Ok(Phase::WaitingLinkEncrypted),
+        6 => Ok(Phase::WaitingIdentitityInformation),
+        7 => Ok(Phase::WaitingIdentitityAddressInformation),
+        8 => Ok(Phase::ReceivingKeys {
+            phase: detail,
+            received_ltk: LongTermKey(read_word(record, 66)),
+        }),
+        9 => Ok(Phase::Success),
+        10 => read_error(detail, reason),
+        _ => Err(RecordError::Phase),
+    }
+}
+
+// Six octets of features, of any key size: `decode` would refuse some.
+#[tactic(auto, unfolding(crate::specs::Record::features_at))]
+fn read_features(octets: [u8; 6]) -> Result<PairingFeatures, RecordError>
+    ensures { answer_of record_refusal result ≡ features_at octets }
+{
+    let [io, oob, security, size, initiator, responder] = octets;
+    let io_capabilities = IoCapabilities::try_from(io).map_err(|_| RecordError::Features)?;
+    let use_oob = UseOutOfBand::try_from(oob).map_err(|_| RecordError::Features)?;
+    Ok(PairingFeatures {
+        io_capabilities,
+        use_oob,
+        security_properties: AuthReq(security),
+        maximum_encryption_key_size: size,
+        initiator_key_distribution: KeyDistributionFlags(initiator),
+        responder_key_distribution: KeyDistributionFlags(responder),
+    })
 }
 
 // The method of octet 108.
-fn read_method(v: u8) -> TryMethod
-    ensures { try_method result ≡ method_of v }
+fn read_method(code: u8) -> Result<PairingMethod, RecordError>
+    ensures { answer_of record_refusal result ≡ method_of code }
 {
-    match v {
-        0 => TryMethod::Ok(PairingMethod::JustWorks),
-        1 => TryMethod::Ok(PairingMethod::NumericComparison),
-        2 => TryMethod::Ok(PairingMethod::PassKeyEntry {
-            central: PassKeyEntryAction::Display,
-            peripheral: PassKeyEntryAction::Input,
-        }),
-        3 => TryMethod::Ok(PairingMethod::PassKeyEntry {
-            central: PassKeyEntryAction::Input,
-            peripheral: PassKeyEntryAction::Display,
-        }),
-        4 => TryMethod::Ok(PairingMethod::PassKeyEntry {
-            central: PassKeyEntryAction::Input,
-            peripheral: PassKeyEntryAction::Input,
-        }),
-        5 => TryMethod::Ok(PairingMethod::OutOfBand),
-        6 => TryMethod::Ok(PairingMethod::PassKeyEntry {
-            central: PassKeyEntryAction::Display,
-            peripheral: PassKeyEntryAction::Display,
-        }),
-        _ => TryMethod::InvalidValue,
-    }
-}
-
-// What reading a bond or none gives.
-#[derive(Clone, Copy)]
-enum TryOptionBond {
-    Ok(OptionBond),
-    InvalidValue,
+    Ok(match code {
+        0 => PairingMethod::JustWorks,
+        1 => PairingMethod::NumericComparison,
+        2 => PairingMethod::PassKeyEntry {
+            central: Display,
+            peripheral: Input,
+        },
+        3 => PairingMethod::PassKeyEntry {
+            central: Input,
+            peripheral: Display,
+        },
+        4 => PairingMethod::PassKeyEntry {
+            central: Input,
+            peripheral: Input,
+        },
+        5 => PairingMethod::OutOfBand,
+        6 => PairingMethod::PassKeyEntry {
+            central: Display,
+            peripheral: Display,
+        },
+        _ => return Err(RecordError::Method),
+    })
 }
 
 // Octets 109 to 160: a bond is read only where it is present.
-// requires because it has no refusal for a cut record: the caller has tested the slice's length.
-fn read_option_bond(record: &[u8]) -> TryOptionBond
-    requires { record_size ≤ length «record».now }
-    ensures { try_option_bond result ≡ option_bond_of (get_or «record».now 109 0) (octets_at 51 110 «record».now) }
+fn read_option_bond(record: &[u8; RECORD_SIZE]) -> Result<Option<BondInformation>, RecordError>
+    ensures { answer_of record_refusal result ≡ option_bond_of (get_or «record».now 109 0) (octets_at 51 110 «record».now) }
 {
     match record[109] {
-        0 => TryOptionBond::Ok(OptionBond::None),
-        1 => {
-            let TryBond::Ok(bond) = read_bond(record, 110) else {
-                return TryOptionBond::InvalidValue;
-            };
-            TryOptionBond::Ok(OptionBond::Some(bond))
-        }
-        _ => TryOptionBond::InvalidValue,
+        0 => Ok(None),
+        1 => Ok(Some(read_bond(record, 110).ok_or(RecordError::Bond)?)),
+        _ => Err(RecordError::Bond),
     }
 }
 
-// What reading the data of a pairing gives: they, or a refusal by its number.
-#[derive(Clone, Copy)]
-enum TryPairingData {
-    Ok(PairingData),
-    Refused(u8),
-}
-
 // Octets 82 to 160.
-// requires because it has no refusal for a cut record: the caller has tested the slice's length.
-fn read_pairing_data(record: &[u8]) -> TryPairingData
-    requires { record_size ≤ length «record».now }
-    ensures { try_pairing_data result ≡ pairing_data_of «record».now }
+#[tactic(auto, unfolding(crate::specs::Record::pairing_data_of))]
+fn read_pairing_data(record: &[u8; RECORD_SIZE]) -> Result<PairingData, RecordError>
+    ensures { answer_of record_refusal result ≡ pairing_data_of «record».now }
 {
-    let TryFeatures::Ok(local_features) = read_features(record, 96) else {
-        return TryPairingData::Refused(22);
-    };
-    let TryFeatures::Ok(peer_features) = read_features(record, 102) else {
-        return TryPairingData::Refused(22);
-    };
-    let TryMethod::Ok(pairing_method) = read_method(record[108]) else {
-        return TryPairingData::Refused(23);
-    };
-    let TryOptionBond::Ok(bond_information) = read_option_bond(record) else {
-        return TryPairingData::Refused(24);
-    };
-    let local_address = read_address(record, 82);
-    let peer_address = read_address(record, 89);
-    TryPairingData::Ok(PairingData {
-        local_address,
-        peer_address,
+    let local_features = read_features(octets_at(record, 96))?;
+    let peer_features = read_features(octets_at(record, 102))?;
+    let pairing_method = read_method(record[108])?;
+    let bond_information = read_option_bond(record)?;
+    Ok(PairingData {
+        local_address: read_address(record, 82),
+        peer_address: read_address(record, 89),
         local_features,
         peer_features,
         pairing_method,
@@ -432,121 +309,42 @@ fn read_pairing_data(record: &[u8]) -> TryPairingData
     })
 }
 
-// Seven octets at a place.
-// requires because it has no refusal: the caller has tested the slice's length.
-fn read_seven(record: &[u8], at: usize) -> [u8; 7]
-    requires { at + 7 ≤ length «record».now }
-    ensures { result ≡ octets_at 7 at «record».now }
-{
-    [
-        record[at],
-        record[at + 1],
-        record[at + 2],
-        record[at + 3],
-        record[at + 4],
-        record[at + 5],
-        record[at + 6],
-    ]
-}
-
 // Octets 4 to 49: preq, pres, tk and local_nonce.
-// requires because it has no refusal: the caller has tested the slice's length.
-fn read_confirm_data(record: &[u8]) -> ConfirmPhaseData
-    requires { record_size ≤ length «record».now }
+#[tactic(auto, unfolding(crate::specs::Record::confirm_data_of))]
+fn read_confirm_data(record: &[u8; RECORD_SIZE]) -> ConfirmPhaseData
     ensures { result ≡ confirm_data_of «record».now }
 {
-    let preq = read_seven(record, 4);
-    let pres = read_seven(record, 11);
-    let tk = read_word(record, 18);
-    let local_nonce = Nonce(read_word(record, 34));
     ConfirmPhaseData {
-        tk,
-        preq,
-        pres,
-        local_nonce,
+        tk: read_word(record, 18),
+        preq: octets_at(record, 4),
+        pres: octets_at(record, 11),
+        local_nonce: Nonce(read_word(record, 34)),
     }
 }
 
-// The same octets, and as many.
-fn same(a: &[u8], b: &[u8]) -> bool
-    ensures { result ≡ same_octets a.now b.now }
+// The machine whose record it is, and no other: what the phase does not hold is zero.
+#[tactic(auto, unfolding(crate::specs::Record::canonical))]
+fn canonical(record: &[u8; RECORD_SIZE], machine: Machine) -> Result<Machine, RecordError>
+    ensures { answer_of record_refusal result ≡ canonical «record».now machine }
 {
-    let n = a.len();
-    if n != b.len() {
-        return false;
+    if machine_octets(machine) == *record {
+        Ok(machine)
+    } else {
+        Err(RecordError::NotCanonical)
     }
-    for i in 0..n {
-        if a[i] != b[i] {
-            return false;
-        }
-    }
-    true
 }
 
-// Whether a record is the one of a machine.
-fn is_record_of(record: &[u8], machine: Machine) -> bool
-    ensures { result ≡ same_octets (machine_octets machine) «record».now }
+// The machine of a record.
+#[tactic(auto, unfolding(crate::specs::Record::machine_of))]
+pub fn read_machine(role: Role, record: &[u8]) -> Result<Machine, RecordError>
+    ensures { answer_of record_refusal result ≡ machine_of role «record».now }
 {
-    let mut own = [0u8; 161];
-    write_machine(machine, &mut own);
-    same(&own, record)
-}
-
-// Whether a record was read, or the number of its refusal.
-#[derive(Clone, Copy)]
-pub enum Reading {
-    Ok,
-    Refused(u8),
-}
-
-// What reading a record gives. The machine of a refusal is a fresh head of no address.
-#[derive(Clone, Copy)]
-pub struct ReadMachine {
-    pub reading: Reading,
-    pub machine: Machine,
-}
-
-fn refuse(n: u8) -> ReadMachine
-    ensures { result ≡ read_of (refused n) }
-{
-    let none = Address {
-        kind: 0,
-        addr: BdAddr { low: 0, high: 0 },
-    };
-    let pairing_data = PairingData::new(none, none, IoCapabilities::NoInputNoOutput);
-    ReadMachine {
-        reading: Reading::Refused(n),
-        machine: Machine::new(pairing_data),
-    }
-}
-
-// 20 the length, 21 the phase, 22 features, 23 the method, 24 the bond, 25 a record that is not the one of its machine.
-pub fn read_machine(role: Role, record: &[u8]) -> ReadMachine
-    ensures { result ≡ read_of (machine_of role «record».now) }
-{
-    if record.len() != 161 {
-        return refuse(20);
-    }
-    let TryPhase::Ok(phase) = read_phase(role, record) else {
-        return refuse(21);
-    };
-    let found = read_pairing_data(record);
-    let pairing_data = match found {
-        TryPairingData::Ok(d) => d,
-        TryPairingData::Refused(n) => return refuse(n),
-    };
-    let confirm_data = read_confirm_data(record).kept_by(phase);
+    let record = <&[u8; RECORD_SIZE]>::try_from(record).map_err(|_| RecordError::Length)?;
+    let phase = read_phase(role, record)?;
     let machine = Machine {
         phase,
-        confirm_data,
-        pairing_data,
+        confirm_data: read_confirm_data(record).kept_by(phase),
+        pairing_data: read_pairing_data(record)?,
     };
-    if is_record_of(record, machine) {
-        ReadMachine {
-            reading: Reading::Ok,
-            machine,
-        }
-    } else {
-        refuse(25)
-    }
+    canonical(record, machine)
 }

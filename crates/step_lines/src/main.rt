@@ -4,29 +4,17 @@
 
 ghost use Rattle.std.specs.Prelude.{◌≤◌, ◌<◌, length};
 
-use answer_lines::{Wrote, write_answer, write_malformed};
+use answer_lines::{write_answer, write_malformed};
 use entry::step_local;
-use lines::{ReadLine, Reading, read_line};
+use lines::{ReadLine, read_line};
 use std::io;
 use std::io::Read;
 
-fn at_most(n: usize, most: usize) -> usize
-    ensures { result ≤ most }
-{
-    if n < most {
-        return n;
-    }
-    most
-}
-
 // The octets of an answer that stand at the front of out, which has room for the longest.
-fn written(wrote: Wrote, out: &[u8]) -> usize
+fn written(wrote: Option<usize>, out: &[u8]) -> usize
     ensures { result ≤ length out.now }
 {
-    match wrote {
-        Wrote::Octets(n) => at_most(n, out.len()),
-        Wrote::NoRoom => 0,
-    }
+    wrote.unwrap_or(0).min(out.len())
 }
 
 // The step of a line that was read, on parts of buffers that are lent; its answer is laid at the front of out.
@@ -36,7 +24,7 @@ fn answer_step(
     answers: &[u8],
     list: &mut [u8],
     out: &mut [u8],
-) -> Wrote {
+) -> Option<usize> {
     let machine = read.machine;
     let input = read.input;
     let role = read.role;
@@ -45,18 +33,16 @@ fn answer_step(
 }
 
 // Lays the answer to a line at the front of out.
-fn answer(line: &[u8], out: &mut [u8]) -> Wrote {
+fn answer(line: &[u8], out: &mut [u8]) -> Option<usize> {
     let mut payload = [0u8; 4096];
     let mut answers = [0u8; 4096];
     let mut list = [0xeeu8; 4096];
-    let read = read_line(line, &mut payload, &mut answers);
-    let reading = read.reading;
-    let Reading::Ok = reading else {
+    let Ok(read) = read_line(line, &mut payload, &mut answers) else {
         return write_malformed(out);
     };
-    let room = at_most(read.room, 4096);
-    let payload_end = at_most(read.payload, 4096);
-    let answers_end = at_most(read.answers, 4096);
+    let room = read.room.min(4096);
+    let payload_end = read.payload.min(4096);
+    let answers_end = read.answers.min(4096);
     answer_step(
         read,
         &payload[0..payload_end],
@@ -68,7 +54,7 @@ fn answer(line: &[u8], out: &mut [u8]) -> Wrote {
 
 // Writes the answer to a line on standard output.
 fn answer_line(rt: &impl Print, line: &[u8], have: usize, out: &mut [u8]) -> io::Result<()> {
-    let end = at_most(have, line.len());
+    let end = have.min(line.len());
     let wrote = answer(&line[0..end], out);
     let n = written(wrote, out);
     rt.write_all(&out[0..n])

@@ -1,11 +1,10 @@
 -- Believed: the archive's contracts, demand 3 and the worked cases rest on it.
 -- I/O capabilities and their codes, Vol 3 Part H, 2.3.2 and 3.5.1. Assumes nothing.
-use Rattle.std.specs.Prelude.{ℕ, List, [], ◌∷◌, map, get_or}
-use Rattle.octets.specs.Answer.{Answer, refused, accepted}
+use Rattle.std.specs.Prelude.{ℕ, List, [], ◌∷◌, map, get_or, Result}
+use Rattle.octets.specs.Answer.{Answer, refused, accepted, answer_of}
 use Rattle.types.specs.declared.capabilities.IoCapabilities.{IoCapabilities}
 use Rattle.types.specs.declared.capabilities.IoCapabilities.TheVariants.{DisplayOnly, DisplayYesNo, KeyboardOnly, NoInputNoOutput, KeyboardDisplay}
-use Rattle.types.specs.declared.capabilities.TryIoCapabilities.{TryIoCapabilities}
-use Rattle.types.specs.declared.capabilities.TryIoCapabilities.TheVariants.{Ok, InvalidValue}
+use Rattle.types.specs.declared.error.InvalidValue.{InvalidValue}
 
 abbrev pub io_code : IoCapabilities → ℕ
 io_code DisplayOnly = 0x00
@@ -22,6 +21,5 @@ ios = DisplayOnly ∷ DisplayYesNo ∷ KeyboardOnly ∷ NoInputNoOutput ∷ Keyb
 abbrev pub io_of : ℕ → Answer IoCapabilities
 io_of v = get_or (map accepted ios) v (refused 5)
 
-abbrev pub io_answer : TryIoCapabilities → Answer IoCapabilities
-io_answer (Ok io) = accepted io
-io_answer InvalidValue = refused 5
+abbrev pub io_answer : Result IoCapabilities InvalidValue → Answer IoCapabilities
+io_answer r = answer_of (λ e. 5) r

@@ -1,23 +1,20 @@
 -- Believed: the archive's contracts, demand 3 and the worked cases rest on it.
 -- Reasons, command codes, the flags and the pairing features, Vol 3 Part H, 3.3 to 3.6. Assumes nothing.
-use Rattle.std.specs.Prelude.{ℕ, ◌%◌, ◌^◌, Bool, true, false, cond, ◌&&◌, List, [], ◌∷◌, map, length, get_or, leb, ltb, eqb}
+use Rattle.std.specs.Prelude.{ℕ, ◌%◌, ◌^◌, Bool, true, false, cond, ◌&&◌, List, [], ◌∷◌, map, length, get_or, leb, ltb, eqb, Result}
 use Rattle.std.specs.Int.Bits.{bit_and, bit_or}
-use Rattle.octets.specs.Answer.{Answer, refused, accepted, and_then}
+use Rattle.octets.specs.Answer.{Answer, refused, accepted, and_then, answer_of}
 use Rattle.types.specs.declared.types.Reason.{Reason}
 use Rattle.types.specs.declared.types.Reason.TheVariants.{Success, PasskeyEntryFailed, OobNotAvailable, AuthenticationRequirements, ConfirmValueFailed, PairingNotSupported, EncryptionKeySize, CommandNotSupported, UnspecifiedReason, RepeatedAttempts, InvalidParameters, DHKeyCheckFailed, NumericComparisonFailed, BrEdrPairingInProgress, GenerationNotAllowed, KeyRejected, Busy}
 use Rattle.types.specs.declared.types.Command.{Command}
 use Rattle.types.specs.declared.types.Command.TheVariants.{PairingRequest, PairingResponse, PairingConfirm, PairingRandom, PairingFailed, EncryptionInformation, CentralIdentification, IdentityInformation, IdentityAddressInformation, SigningInformation, SecurityRequest, PairingPublicKey, PairingDhKeyCheck, KeypressNotification}
-use Rattle.types.specs.declared.types.TryCommand.{TryCommand}
-use Rattle.types.specs.declared.types.TryCommand.TheVariants as try-command
 use Rattle.types.specs.declared.types.UseOutOfBand.{UseOutOfBand}
 use Rattle.types.specs.declared.types.UseOutOfBand.TheVariants.{NotPresent, Present}
-use Rattle.types.specs.declared.types.TryUseOutOfBand.{TryUseOutOfBand}
-use Rattle.types.specs.declared.types.TryUseOutOfBand.TheVariants as try-oob
 use Rattle.types.specs.declared.types.BondingFlag.{BondingFlag}
 use Rattle.types.specs.declared.types.BondingFlag.TheVariants.{NoBonding, Bonding}
 use Rattle.types.specs.declared.types.PairingFeatures.{PairingFeatures}
-use Rattle.types.specs.declared.types.Decoded.{Decoded}
-use Rattle.types.specs.declared.types.Decoded.TheVariants as decoded
+use Rattle.types.specs.declared.codec.Error.{Error}
+use Rattle.types.specs.declared.codec.Error.TheVariants as codec
+use Rattle.types.specs.declared.error.InvalidValue.{InvalidValue}
 use Rattle.types.specs.declared.capabilities.IoCapabilities.{IoCapabilities}
 use Rattle.types.specs.declared.capabilities.IoCapabilities.TheVariants.{NoInputNoOutput}
 use Rattle.types.specs.Capabilities.{io_code, io_of}
@@ -125,9 +122,8 @@ commands =
 abbrev pub command_of : ℕ → Answer Command
 command_of v = get_or (refused 2 ∷ map accepted commands) v (refused 2)
 
-abbrev pub command_answer : TryCommand → Answer Command
-command_answer (try-command.Ok c) = accepted c
-command_answer try-command.InvalidValue = refused 2
+abbrev pub command_answer : Result Command InvalidValue → Answer Command
+command_answer r = answer_of (λ e. 2) r
 
 -- ---- the OOB data flag, 2.3.3 and 3.5.1
 
@@ -143,9 +139,8 @@ oobs = NotPresent ∷ Present ∷ []
 abbrev pub oob_of : ℕ → Answer UseOutOfBand
 oob_of v = get_or (map accepted oobs) v (refused 5)
 
-abbrev pub oob_answer : TryUseOutOfBand → Answer UseOutOfBand
-oob_answer (try-oob.Ok o) = accepted o
-oob_answer try-oob.InvalidValue = refused 5
+abbrev pub oob_answer : Result UseOutOfBand InvalidValue → Answer UseOutOfBand
+oob_answer r = answer_of (λ e. 5) r
 
 abbrev pub oob_present : UseOutOfBand → Bool
 oob_present NotPresent = false
@@ -252,7 +247,10 @@ features_of s =
     and_then (size_of (get_or s 3 0)) (λ size.
     accepted (features_with s io oob size)))))
 
-abbrev pub decoded_answer : Decoded → Answer PairingFeatures
-decoded_answer (decoded.Features f) = accepted f
-decoded_answer decoded.InsufficientSpace = refused 4
-decoded_answer decoded.InvalidValue = refused 5
+-- the number by which an error of reading refuses
+abbrev pub refusal_number : Error → ℕ
+refusal_number codec.InsufficientSpace = 4
+refusal_number codec.InvalidValue = 5
+
+abbrev pub decoded_answer : Result PairingFeatures Error → Answer PairingFeatures
+decoded_answer r = answer_of refusal_number r

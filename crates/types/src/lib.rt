@@ -3,10 +3,13 @@
 #![tactic(auto)]
 
 pub mod capabilities;
+pub mod codec;
+pub mod error;
 pub mod types;
 
-pub use capabilities::{IoCapabilities, TryIoCapabilities};
+pub use capabilities::IoCapabilities;
+pub use error::InvalidValue;
 pub use types::{
-    AuthReq, BondingFlag, Command, Decoded, KeyDistributionFlags, PairingFeatures, PassKey, Reason,
-    TryCommand, TryUseOutOfBand, UseOutOfBand,
+    AuthReq, BondingFlag, Command, KeyDistributionFlags, PairingFeatures, PassKey, Reason,
+    UseOutOfBand,
 };

@@ -1,56 +1,59 @@
-ghost use Rattle.std.specs.Prelude.{◌≡◌};
+ghost use Rattle.std.specs.Prelude.{◌≡◌, eqb};
+ghost use Rattle.std.specs.Int.Bits.{bit_and};
 ghost use Rattle.types.specs.Types.{reason_code, reason_of, command_code, payload_size, command_of, command_answer};
 ghost use Rattle.types.specs.Types.{oob_code, oob_of, oob_answer, oob_present, bonding_code, bonding_of, flag, with_flag};
 ghost use Rattle.types.specs.Types.{mitm_flag, secure_connection_flag, key_press_flag, ct2_flag};
 ghost use Rattle.types.specs.Types.{encryption_key_flag, identity_key_flag, signing_key_flag, link_key_flag};
 ghost use Rattle.types.specs.Types.{feature_size, default_features, feature_octets, features_of, decoded_answer};
 
-use crate::capabilities::{IoCapabilities, TryIoCapabilities};
+use crate::capabilities::IoCapabilities;
+use crate::codec;
+use crate::error::InvalidValue;
 
 // Pairing Failed Reason ([Vol 3] Part H, Section 3.5.5).
-#[derive(Clone, Copy)]
+#[derive(Clone, Copy, PartialEq, Eq)]
 pub enum Reason {
     // Pairing success
-    Success,
+    Success = 0x00,
     // The user input of passkey failed, for example, the user cancelled the operation.
-    PasskeyEntryFailed,
+    PasskeyEntryFailed = 0x01,
     // The OOB data is not available.
-    OobNotAvailable,
+    OobNotAvailable = 0x02,
     // Authentication requirements cannot be met due to IO capabilities of one or both devices.
-    AuthenticationRequirements,
+    AuthenticationRequirements = 0x03,
     // The confirm value does not match the calculated compare value.
-    ConfirmValueFailed,
+    ConfirmValueFailed = 0x04,
     // Pairing is not supported by the device.
-    PairingNotSupported,
+    PairingNotSupported = 0x05,
     // The resultant encryption key size is not long enough for the security requirements of this device.
-    EncryptionKeySize,
+    EncryptionKeySize = 0x06,
     // The SMP command received is not supported on this device.
-    CommandNotSupported,
+    CommandNotSupported = 0x07,
     // Pairing failed due to an unspecified reason.
-    UnspecifiedReason,
+    UnspecifiedReason = 0x08,
     // Too little time has elapsed since last pairing request or security request.
-    RepeatedAttempts,
+    RepeatedAttempts = 0x09,
     // The command length is invalid or a parameter is outside of the specified range.
-    InvalidParameters,
+    InvalidParameters = 0x0a,
     // The DHKey Check value received doesn't match the one calculated by the local device.
-    DHKeyCheckFailed,
+    DHKeyCheckFailed = 0x0b,
     // The confirm values in the numeric comparison protocol do not match.
-    NumericComparisonFailed,
+    NumericComparisonFailed = 0x0c,
     // A Pairing Request sent over the BR/EDR transport is in progress.
-    BrEdrPairingInProgress,
+    BrEdrPairingInProgress = 0x0d,
     // A key generated on one transport cannot be used to derive a key for the other.
-    GenerationNotAllowed,
+    GenerationNotAllowed = 0x0e,
     // The device chose not to accept a distributed key.
-    KeyRejected,
+    KeyRejected = 0x0f,
     // The device is not ready to perform a pairing procedure.
-    Busy,
+    Busy = 0x10,
 }
 
-impl Reason {
-    // The reason of a code; what is no code of a reason, 0 among them, is read as UnspecifiedReason.
-    pub fn from_u8(val: u8) -> Reason
-        ensures { result ≡ reason_of val }
-    {
+impl From<u8> for Reason {
+    ghost from_gives = { λ val reason. reason ≡ reason_of val };
+
+    // What is no code of a reason, 0 among them, is read as UnspecifiedReason.
+    fn from(val: u8) -> Reason {
         match val {
             // Do not convert 0 to Success
             0x01 => Reason::PasskeyEntryFailed,
@@ -72,70 +75,47 @@ impl Reason {
             _ => Reason::UnspecifiedReason,
         }
     }
+}
 
-    pub fn into_u8(self) -> u8
-        ensures { result ≡ reason_code self }
-    {
-        match self {
-            Reason::Success => 0x00,
-            Reason::PasskeyEntryFailed => 0x01,
-            Reason::OobNotAvailable => 0x02,
-            Reason::AuthenticationRequirements => 0x03,
-            Reason::ConfirmValueFailed => 0x04,
-            Reason::PairingNotSupported => 0x05,
-            Reason::EncryptionKeySize => 0x06,
-            Reason::CommandNotSupported => 0x07,
-            Reason::UnspecifiedReason => 0x08,
-            Reason::RepeatedAttempts => 0x09,
-            Reason::InvalidParameters => 0x0a,
-            Reason::DHKeyCheckFailed => 0x0b,
-            Reason::NumericComparisonFailed => 0x0c,
-            Reason::BrEdrPairingInProgress => 0x0d,
-            Reason::GenerationNotAllowed => 0x0e,
-            Reason::KeyRejected => 0x0f,
-            Reason::Busy => 0x10,
-        }
+impl From<Reason> for u8 {
+    ghost from_gives = { λ reason code. code ≡ reason_code reason };
+
+    fn from(val: Reason) -> u8 {
+        val as u8
     }
 }
 
 // Security Manager Protocol (SMP) Command ([Vol 3] Part H, Sections 3.5 and 3.6)
-#[derive(Clone, Copy)]
+#[derive(Clone, Copy, PartialEq, Eq)]
 pub enum Command {
     // Pairing Request (3.5.1)
-    PairingRequest,
+    PairingRequest = 0x01,
     // Pairing Response (3.5.2)
-    PairingResponse,
+    PairingResponse = 0x02,
     // Pairing Confirm (3.5.3)
-    PairingConfirm,
+    PairingConfirm = 0x03,
     // Pairing Random (3.5.4)
-    PairingRandom,
+    PairingRandom = 0x04,
     // Pairing Failed (3.5.5)
-    PairingFailed,
+    PairingFailed = 0x05,
     // Encryption Information, Long Term Key (LTK) (3.6.2)
-    EncryptionInformation,
+    EncryptionInformation = 0x06,
     // Central Identification, Encrypted Diversifier (EDIV) and Random Number (Rand) (3.6.3)
-    CentralIdentification,
+    CentralIdentification = 0x07,
     // Identity Information, Identity Resolving Key (IRK) (3.6.4)
-    IdentityInformation,
+    IdentityInformation = 0x08,
     // Identity Address Information, Bluetooth Device Address (BD_ADDR) (3.6.5)
-    IdentityAddressInformation,
+    IdentityAddressInformation = 0x09,
     // Signing Information, Connection Signature Resolving Key (CSRK) (3.6.6)
-    SigningInformation,
+    SigningInformation = 0x0a,
     // Security Request (3.6.7)
-    SecurityRequest,
+    SecurityRequest = 0x0b,
     // Pairing Public Key (3.5.6)
-    PairingPublicKey,
+    PairingPublicKey = 0x0c,
     // Pairing DH key check (3.5.7)
-    PairingDhKeyCheck,
+    PairingDhKeyCheck = 0x0d,
     // Key Press Notification (3.5.8)
-    KeypressNotification,
-}
-
-// What reading a command code gives.
-#[derive(Clone, Copy)]
-pub enum TryCommand {
-    Ok(Command),
-    InvalidValue,
+    KeypressNotification = 0x0e,
 }
 
 impl Command {
@@ -144,48 +124,36 @@ impl Command {
         ensures { result ≡ payload_size self }
     {
         match self {
-            Command::PairingRequest => 6,
-            Command::PairingResponse => 6,
-            Command::PairingConfirm => 16,
-            Command::PairingRandom => 16,
-            Command::PairingFailed => 1,
-            Command::EncryptionInformation => 16,
+            Command::PairingRequest | Command::PairingResponse => 6,
+            Command::PairingConfirm
+            | Command::PairingRandom
+            | Command::EncryptionInformation
+            | Command::IdentityInformation
+            | Command::SigningInformation
+            | Command::PairingDhKeyCheck => 16,
             Command::CentralIdentification => 10,
-            Command::IdentityInformation => 16,
             Command::IdentityAddressInformation => 7,
-            Command::SigningInformation => 16,
-            Command::SecurityRequest => 1,
             Command::PairingPublicKey => 64,
-            Command::PairingDhKeyCheck => 16,
-            Command::KeypressNotification => 1,
+            Command::PairingFailed | Command::SecurityRequest | Command::KeypressNotification => 1,
         }
     }
+}
 
-    pub fn into_u8(self) -> u8
-        ensures { result ≡ command_code self }
-    {
-        match self {
-            Command::PairingRequest => 0x01,
-            Command::PairingResponse => 0x02,
-            Command::PairingConfirm => 0x03,
-            Command::PairingRandom => 0x04,
-            Command::PairingFailed => 0x05,
-            Command::EncryptionInformation => 0x06,
-            Command::CentralIdentification => 0x07,
-            Command::IdentityInformation => 0x08,
-            Command::IdentityAddressInformation => 0x09,
-            Command::SigningInformation => 0x0a,
-            Command::SecurityRequest => 0x0b,
-            Command::PairingPublicKey => 0x0c,
-            Command::PairingDhKeyCheck => 0x0d,
-            Command::KeypressNotification => 0x0e,
-        }
+impl From<Command> for u8 {
+    ghost from_gives = { λ command code. code ≡ command_code command };
+
+    fn from(value: Command) -> u8 {
+        value as u8
     }
+}
 
-    pub fn try_from(value: u8) -> TryCommand
-        ensures { command_answer result ≡ command_of value }
-    {
-        let cmd = match value {
+impl TryFrom<u8> for Command {
+    type Error = InvalidValue;
+
+    ghost try_from_gives = { λ value r. command_answer r ≡ command_of value };
+
+    fn try_from(value: u8) -> Result<Self, InvalidValue> {
+        Ok(match value {
             0x01 => Command::PairingRequest,
             0x02 => Command::PairingResponse,
             0x03 => Command::PairingConfirm,
@@ -200,14 +168,13 @@ impl Command {
             0x0c => Command::PairingPublicKey,
             0x0d => Command::PairingDhKeyCheck,
             0x0e => Command::KeypressNotification,
-            _ => return TryCommand::InvalidValue,
-        };
-        TryCommand::Ok(cmd)
+            _ => return Err(InvalidValue),
+        })
     }
 }
 
 // A passkey, or a value for use in numeric comparison
-#[derive(Clone, Copy)]
+#[derive(Clone, Copy, PartialEq, Eq)]
 pub struct PassKey(pub u32);
 
 impl PassKey {
@@ -220,45 +187,41 @@ impl PassKey {
 }
 
 // Out of band (OOB) authentication data ([Vol 3] Part H, Section 2.3.3).
-#[derive(Clone, Copy)]
+#[derive(Clone, Copy, PartialEq, Eq)]
 pub enum UseOutOfBand {
     // OOB not present
-    NotPresent,
+    NotPresent = 0x00,
     // OOB present
-    Present,
+    Present = 0x01,
 }
 
-// What reading the OOB data flag gives.
-#[derive(Clone, Copy)]
-pub enum TryUseOutOfBand {
-    Ok(UseOutOfBand),
-    InvalidValue,
-}
+impl TryFrom<u8> for UseOutOfBand {
+    type Error = InvalidValue;
 
-impl UseOutOfBand {
-    pub fn try_from(val: u8) -> TryUseOutOfBand
-        ensures { oob_answer result ≡ oob_of val }
-    {
-        TryUseOutOfBand::Ok(match val {
+    ghost try_from_gives = { λ val r. oob_answer r ≡ oob_of val };
+
+    fn try_from(val: u8) -> Result<Self, InvalidValue> {
+        Ok(match val {
             0x00 => UseOutOfBand::NotPresent,
             0x01 => UseOutOfBand::Present,
-            _ => return TryUseOutOfBand::InvalidValue,
+            _ => return Err(InvalidValue),
         })
     }
+}
 
-    pub fn into_u8(self) -> u8
-        ensures { result ≡ oob_code self }
-    {
-        match self {
-            UseOutOfBand::NotPresent => 0x00,
-            UseOutOfBand::Present => 0x01,
-        }
+impl From<UseOutOfBand> for u8 {
+    ghost from_gives = { λ oob code. code ≡ oob_code oob };
+
+    fn from(val: UseOutOfBand) -> u8 {
+        val as u8
     }
+}
 
-    pub fn into_bool(self) -> bool
-        ensures { result ≡ oob_present self }
-    {
-        match self {
+impl From<UseOutOfBand> for bool {
+    ghost from_gives = { λ oob present. present ≡ oob_present oob };
+
+    fn from(val: UseOutOfBand) -> bool {
+        match val {
             UseOutOfBand::NotPresent => false,
             UseOutOfBand::Present => true,
         }
@@ -266,27 +229,31 @@ impl UseOutOfBand {
 }
 
 // Bit field indicating the type of bonding requested ([Vol 3] Part H, Section 3.5.1).
-#[derive(Clone, Copy)]
+#[derive(Clone, Copy, PartialEq, Eq)]
 pub enum BondingFlag {
     // No bonding
-    NoBonding,
+    NoBonding = 0x00,
     // Bonding
-    Bonding,
+    Bonding = 0x01,
 }
 
-impl BondingFlag {
-    pub fn into_u8(self) -> u8
-        ensures { result ≡ bonding_code self }
-    {
-        match self {
-            BondingFlag::NoBonding => 0x00,
-            BondingFlag::Bonding => 0x01,
-        }
+impl From<BondingFlag> for u8 {
+    ghost from_gives = { λ bonding code. code ≡ bonding_code bonding };
+
+    fn from(val: BondingFlag) -> u8 {
+        val as u8
     }
 }
 
+// Whether `octet` has the bit of `flag`.
+fn has(octet: u8, flag: u8) -> bool
+    ensures { result ≡ eqb (bit_and octet flag) flag }
+{
+    (octet & flag) == flag
+}
+
 // AuthReq octet ([Vol 3] Part H, Section 3.5.1).
-#[derive(Clone, Copy)]
+#[derive(Clone, Copy, PartialEq, Eq)]
 pub struct AuthReq(pub u8);
 
 // The bits of the bonding flag
@@ -309,14 +276,14 @@ impl AuthReq {
     pub fn new(bonding: BondingFlag) -> Self
         ensures { result ≡ record { 0 = with_flag secure_connection_flag (bonding_code bonding) } }
     {
-        AuthReq(bonding.into_u8() | AUTH_REQ_SECURE_CONNECTION)
+        AuthReq(u8::from(bonding) | AUTH_REQ_SECURE_CONNECTION)
     }
 
     // Build a AuthReq octet for LE Legacy Pairing
     pub fn new_legacy(bonding: BondingFlag) -> Self
         ensures { result ≡ record { 0 = bonding_code bonding } }
     {
-        AuthReq(bonding.into_u8())
+        AuthReq(u8::from(bonding))
     }
 
     // Set the MITM flag
@@ -342,33 +309,34 @@ impl AuthReq {
     pub fn man_in_the_middle(self) -> bool
         ensures { result ≡ flag mitm_flag self.0 }
     {
-        (self.0 & AUTH_REQ_MITM) == AUTH_REQ_MITM
+        has(self.0, AUTH_REQ_MITM)
     }
 
     // LE Secure Connections supported
     pub fn secure_connection(self) -> bool
         ensures { result ≡ flag secure_connection_flag self.0 }
     {
-        (self.0 & AUTH_REQ_SECURE_CONNECTION) == AUTH_REQ_SECURE_CONNECTION
+        has(self.0, AUTH_REQ_SECURE_CONNECTION)
     }
 
     // Keypress notification during Passkey entry protocol
     pub fn key_press_notification(self) -> bool
         ensures { result ≡ flag key_press_flag self.0 }
     {
-        (self.0 & AUTH_REQ_KEY_PRESS) == AUTH_REQ_KEY_PRESS
+        has(self.0, AUTH_REQ_KEY_PRESS)
     }
 
     // Support for the h7 function
     pub fn ct2(self) -> bool
         ensures { result ≡ flag ct2_flag self.0 }
     {
-        (self.0 & AUTH_REQ_CT2) == AUTH_REQ_CT2
+        has(self.0, AUTH_REQ_CT2)
     }
 }
 
 // Key Distribution Flags ([Vol 3] Part H, Section 3.6.1).
-#[derive(Clone, Copy)]
+// Each getter and setter is one line, under the name that the Rust gives it.
+#[derive(Clone, Copy, PartialEq, Eq)]
 pub struct KeyDistributionFlags(pub u8);
 
 impl KeyDistributionFlags {
@@ -385,28 +353,28 @@ impl KeyDistributionFlags {
     pub fn encryption_key(self) -> bool
         ensures { result ≡ flag encryption_key_flag self.0 }
     {
-        (self.0 & Self::ENCRYPTION_KEY) == Self::ENCRYPTION_KEY
+        has(self.0, Self::ENCRYPTION_KEY)
     }
 
     // Identity key flag
     pub fn identity_key(self) -> bool
         ensures { result ≡ flag identity_key_flag self.0 }
     {
-        (self.0 & Self::IDENTITY_KEY) == Self::IDENTITY_KEY
+        has(self.0, Self::IDENTITY_KEY)
     }
 
     // Signing key flag
     pub fn signing_key(self) -> bool
         ensures { result ≡ flag signing_key_flag self.0 }
     {
-        (self.0 & Self::SIGNING_KEY) == Self::SIGNING_KEY
+        has(self.0, Self::SIGNING_KEY)
     }
 
     // Link key flag
     pub fn link_key(self) -> bool
         ensures { result ≡ flag link_key_flag self.0 }
     {
-        (self.0 & Self::LINK_KEY) == Self::LINK_KEY
+        has(self.0, Self::LINK_KEY)
     }
 
     // Set the encryption key flag
@@ -443,7 +411,7 @@ impl KeyDistributionFlags {
 }
 
 // Pairing features used in pairing request and pairing response ([Vol 3] Part H, Sections 3.5.1 and 3.5.2)
-#[derive(Clone, Copy)]
+#[derive(Clone, Copy, PartialEq, Eq)]
 pub struct PairingFeatures {
     pub io_capabilities: IoCapabilities,
     pub use_oob: UseOutOfBand,
@@ -451,14 +419,6 @@ pub struct PairingFeatures {
     pub maximum_encryption_key_size: u8,
     pub initiator_key_distribution: KeyDistributionFlags,
     pub responder_key_distribution: KeyDistributionFlags,
-}
-
-// What reading pairing features gives.
-#[derive(Clone, Copy)]
-pub enum Decoded {
-    Features(PairingFeatures),
-    InsufficientSpace,
-    InvalidValue,
 }
 
 // The least and the largest encryption key size, in octets ([Vol 3] Part H, Section 3.5.1)
@@ -473,9 +433,47 @@ impl PairingFeatures {
         Command::PairingRequest.payload_size() as usize
     }
 
-    pub fn default() -> Self
-        ensures { result ≡ default_features }
+    pub fn encode(self) -> [u8; 6]
+        ensures { result ≡ feature_octets self }
     {
+        [
+            u8::from(self.io_capabilities),
+            u8::from(self.use_oob),
+            self.security_properties.0,
+            self.maximum_encryption_key_size,
+            self.initiator_key_distribution.0,
+            self.responder_key_distribution.0,
+        ]
+    }
+
+    #[tactic(auto, unfolding(crate::specs::Types::features_of))]
+    pub fn decode(source: &[u8]) -> Result<Self, codec::Error>
+        ensures { decoded_answer result ≡ features_of source.now }
+    {
+        let &[io, oob, security, size, initiator, responder, ..] = source else {
+            return Err(codec::Error::InsufficientSpace);
+        };
+        let io_capabilities = IoCapabilities::try_from(io)?;
+        let use_oob = UseOutOfBand::try_from(oob)?;
+        if !matches!(size, ENCRYPTION_KEY_SIZE_MIN..=ENCRYPTION_KEY_SIZE_128_BITS) {
+            return Err(codec::Error::InvalidValue);
+        }
+        Ok(Self {
+            io_capabilities,
+            use_oob,
+            security_properties: AuthReq(security),
+            maximum_encryption_key_size: size,
+            initiator_key_distribution: KeyDistributionFlags(initiator),
+            responder_key_distribution: KeyDistributionFlags(responder),
+        })
+    }
+}
+
+impl Default for PairingFeatures {
+    ghost is_default = { λ features. features ≡ default_features };
+
+    #[tactic(auto, unfolding(crate::specs::Types::default_features))]
+    fn default() -> Self {
         Self {
             io_capabilities: IoCapabilities::NoInputNoOutput,
             use_oob: UseOutOfBand::NotPresent,
@@ -484,46 +482,5 @@ impl PairingFeatures {
             initiator_key_distribution: KeyDistributionFlags(0),
             responder_key_distribution: KeyDistributionFlags(0),
         }
-    }
-
-    pub fn encode(self) -> [u8; 6]
-        ensures { result ≡ feature_octets self }
-    {
-        let io_capabilities = self.io_capabilities;
-        let use_oob = self.use_oob;
-        [
-            io_capabilities.into_u8(),
-            use_oob.into_u8(),
-            self.security_properties.0,
-            self.maximum_encryption_key_size,
-            self.initiator_key_distribution.0,
-            self.responder_key_distribution.0,
-        ]
-    }
-
-    pub fn decode(source: &[u8]) -> Decoded
-        ensures { decoded_answer result ≡ features_of source.now }
-    {
-        if source.len() < Self::payload_size() {
-            return Decoded::InsufficientSpace;
-        }
-        let TryIoCapabilities::Ok(io_capabilities) = IoCapabilities::try_from(source[0]) else {
-            return Decoded::InvalidValue;
-        };
-        let TryUseOutOfBand::Ok(use_oob) = UseOutOfBand::try_from(source[1]) else {
-            return Decoded::InvalidValue;
-        };
-        let size = source[3];
-        if size < ENCRYPTION_KEY_SIZE_MIN || size > ENCRYPTION_KEY_SIZE_128_BITS {
-            return Decoded::InvalidValue;
-        }
-        Decoded::Features(PairingFeatures {
-            io_capabilities,
-            use_oob,
-            security_properties: AuthReq(source[2]),
-            maximum_encryption_key_size: size,
-            initiator_key_distribution: KeyDistributionFlags(source[4]),
-            responder_key_distribution: KeyDistributionFlags(source[5]),
-        })
     }
 }

@@ -2,15 +2,18 @@ ghost use Rattle.std.specs.Prelude.{◌≡◌, ◌⊎◌};
 ghost use Rattle.util.specs.Method.{level_code, security_level, io_method, legacy_method};
 
 use crate::connection::SecurityLevel;
+use types::IoCapabilities::{
+    DisplayOnly, DisplayYesNo, KeyboardDisplay, KeyboardOnly, NoInputNoOutput,
+};
 use types::{IoCapabilities, PairingFeatures};
 
-#[derive(Clone, Copy)]
+#[derive(Clone, Copy, PartialEq, Eq)]
 pub enum PassKeyEntryAction {
     Display,
     Input,
 }
 
-#[derive(Clone, Copy)]
+#[derive(Clone, Copy, PartialEq, Eq)]
 pub enum PairingMethod {
     JustWorks,
     NumericComparison,
@@ -48,6 +51,7 @@ impl PairingMethod {
 }
 
 // LE Legacy Pairing method selection. There is no Numeric Comparison: DisplayYesNo on both sides is Just Works.
+#[tactic(auto, unfolding(crate::specs::Method::legacy_method))]
 pub fn choose_legacy_pairing_method(
     central: PairingFeatures,
     peripheral: PairingFeatures,
@@ -57,22 +61,18 @@ pub fn choose_legacy_pairing_method(
         ⊎ (result ≡ PairingMethod.PERIPHERAL_DISPLAYS) ⊎ (result ≡ PairingMethod.BOTH_INPUT)
         ⊎ (result ≡ PairingMethod.OutOfBand) }
 {
-    let central_oob = central.use_oob;
-    let peripheral_oob = peripheral.use_oob;
-    let central_io = central.io_capabilities;
-    let peripheral_io = peripheral.io_capabilities;
-    if central_oob.into_bool() && peripheral_oob.into_bool() {
+    if bool::from(central.use_oob) && bool::from(peripheral.use_oob) {
         PairingMethod::OutOfBand
     } else if !central.security_properties.man_in_the_middle()
         && !peripheral.security_properties.man_in_the_middle()
     {
         PairingMethod::JustWorks
     } else {
-        method_of_io(central_io, peripheral_io)
+        method_of_io(central.io_capabilities, peripheral.io_capabilities)
     }
 }
 
-// The same choice, by the definition alone.
+// The same choice, for callers that need its definition alone and not the five methods.
 pub fn legacy_pairing_method(central: PairingFeatures, peripheral: PairingFeatures) -> PairingMethod
     ensures { result ≡ legacy_method central peripheral }
 {
@@ -83,35 +83,17 @@ pub fn legacy_pairing_method(central: PairingFeatures, peripheral: PairingFeatur
 fn method_of_io(central: IoCapabilities, peripheral: IoCapabilities) -> PairingMethod
     ensures { result ≡ io_method central peripheral }
 {
-    match central {
-        IoCapabilities::NoInputNoOutput => PairingMethod::JustWorks,
-        IoCapabilities::DisplayOnly => match peripheral {
-            IoCapabilities::NoInputNoOutput => PairingMethod::JustWorks,
-            IoCapabilities::DisplayOnly => PairingMethod::JustWorks,
-            IoCapabilities::DisplayYesNo => PairingMethod::JustWorks,
-            IoCapabilities::KeyboardOnly => PairingMethod::CENTRAL_DISPLAYS,
-            IoCapabilities::KeyboardDisplay => PairingMethod::CENTRAL_DISPLAYS,
-        },
-        IoCapabilities::DisplayYesNo => match peripheral {
-            IoCapabilities::NoInputNoOutput => PairingMethod::JustWorks,
-            IoCapabilities::DisplayOnly => PairingMethod::JustWorks,
-            IoCapabilities::DisplayYesNo => PairingMethod::JustWorks,
-            IoCapabilities::KeyboardOnly => PairingMethod::CENTRAL_DISPLAYS,
-            IoCapabilities::KeyboardDisplay => PairingMethod::CENTRAL_DISPLAYS,
-        },
-        IoCapabilities::KeyboardOnly => match peripheral {
-            IoCapabilities::NoInputNoOutput => PairingMethod::JustWorks,
-            IoCapabilities::DisplayOnly => PairingMethod::PERIPHERAL_DISPLAYS,
-            IoCapabilities::DisplayYesNo => PairingMethod::PERIPHERAL_DISPLAYS,
-            IoCapabilities::KeyboardOnly => PairingMethod::BOTH_INPUT,
-            IoCapabilities::KeyboardDisplay => PairingMethod::PERIPHERAL_DISPLAYS,
-        },
-        IoCapabilities::KeyboardDisplay => match peripheral {
-            IoCapabilities::NoInputNoOutput => PairingMethod::JustWorks,
-            IoCapabilities::DisplayOnly => PairingMethod::PERIPHERAL_DISPLAYS,
-            IoCapabilities::DisplayYesNo => PairingMethod::PERIPHERAL_DISPLAYS,
-            IoCapabilities::KeyboardOnly => PairingMethod::CENTRAL_DISPLAYS,
-            IoCapabilities::KeyboardDisplay => PairingMethod::CENTRAL_DISPLAYS,
-        },
+    match (central, peripheral) {
+        (NoInputNoOutput, _) | (_, NoInputNoOutput) => PairingMethod::JustWorks,
+        (DisplayOnly | DisplayYesNo, DisplayOnly | DisplayYesNo) => PairingMethod::JustWorks,
+        (DisplayOnly | DisplayYesNo, KeyboardOnly | KeyboardDisplay) => {
+            PairingMethod::CENTRAL_DISPLAYS
+        }
+        (KeyboardOnly | KeyboardDisplay, DisplayOnly | DisplayYesNo) => {
+            PairingMethod::PERIPHERAL_DISPLAYS
+        }
+        (KeyboardOnly, KeyboardOnly) => PairingMethod::BOTH_INPUT,
+        (KeyboardOnly, KeyboardDisplay) => PairingMethod::PERIPHERAL_DISPLAYS,
+        (KeyboardDisplay, KeyboardOnly | KeyboardDisplay) => PairingMethod::CENTRAL_DISPLAYS,
     }
 }

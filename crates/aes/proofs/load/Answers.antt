@@ -1,26 +1,18 @@
 -- `aes::load` meets its contract. Assumes nothing.
-use mathlib.Core.Path.{◌≡◌, sym}
-use lib.ListN.{length}
+use Rattle.std.proofs.Common.{rules, ◌≡◌, ◌∙◌, sym, ap, ℕ, ◌+◌, ◌*◌, ◌<◌, [], ◌∷◌, length, get_or}
 use Rattle.octets.proofs.Lists.{whole}
-use Rattle.aes.specs.Columns.{octets}
-use borrow.Author.Rules.{rules}
+use Rattle.aes.specs.Columns.{four}
+use Rattle.aes.proofs.Columns.{joined, by_columns}
 use Rattle.aes.proofs.load.Goals as goal
 
 pub returns : goal.returns
-unfolding octets
 returns c =
-    let s = c.args.s in
+    let s = c.args.s.now in
+    let r = c.from_fn.result in
     let n : length s ≡ 16 = search rules in
-    rw (c.join.ensures, c.join-2.ensures, c.join-3.ensures, c.join-4.ensures) (sym (whole 16 s n))
-
-pub join-requires : goal.join-requires
-join-requires c = tt
-
-pub join-requires-2 : goal.join-requires-2
-join-requires-2 c = tt
-
-pub join-requires-3 : goal.join-requires-3
-join-requires-3 c = tt
-
-pub join-requires-4 : goal.join-requires-4
-join-requires-4 c = tt
+    let o : (k : ℕ) → get_or s k 0 < 256 = search rules in
+    let column : (i : ℕ) → i < 4 → four (get_or r i 0) ≡ get_or s (4 * i) 0 ∷ get_or s (4 * i + 1) 0 ∷ get_or s (4 * i + 2) 0 ∷ get_or s (4 * i + 3) 0 ∷ [] =
+    λ i h.
+    let e : get_or r i 0 ≡ get_or s (4 * i) 0 + get_or s (4 * i + 1) 0 * 256 + get_or s (4 * i + 2) 0 * 65536 + get_or s (4 * i + 3) 0 * 16777216 = search rules in
+    ap four e ∙ joined _ _ _ _ (o _) (o _) (o _) (o _) in
+    by_columns r _ c.from_fn.ensures.items.long column ∙ sym (whole 16 s n)

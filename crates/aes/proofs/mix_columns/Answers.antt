@@ -1,22 +1,18 @@
 -- `aes::mix_columns` meets its contract. Assumes nothing.
-use Rattle.aes.specs.Columns.{octets}
-use Rattle.aes.proofs.Columns.{mixed_columns}
+use Rattle.std.proofs.Common.{rules, ◌≡◌, ◌∙◌, sym, ap, ℕ, ◌<◌, List, [], ◌∷◌, length, get_or}
+use Rattle.std.specs.List.{flat_map}
+use Rattle.aes.specs.Aes.{mix_column, mixed_at, mix_columns}
+use Rattle.aes.specs.Columns.{four, octets}
+use Rattle.aes.proofs.Columns.{by_columns, columns}
 use Rattle.aes.proofs.mix_columns.Goals as goal
 
+mixed : (s : List ℕ) → length s ≡ 4 → flat_map (λ i. mixed_at (four (get_or s i 0)) 0) (0 ∷ 1 ∷ 2 ∷ 3 ∷ []) ≡ mix_columns (octets s)
+unfolding four mix_column mixed_at mix_columns
+mixed s n = ap mix_columns (sym (columns s n))
+
 pub returns : goal.returns
-unfolding octets
 returns c =
-    rw (c.mix_column.ensures, c.mix_column-2.ensures, c.mix_column-3.ensures, c.mix_column-4.ensures)
-    (mixed_columns c.args.s)
-
-pub mix_column-requires : goal.mix_column-requires
-mix_column-requires c = tt
-
-pub mix_column-requires-2 : goal.mix_column-requires-2
-mix_column-requires-2 c = tt
-
-pub mix_column-requires-3 : goal.mix_column-requires-3
-mix_column-requires-3 c = tt
-
-pub mix_column-requires-4 : goal.mix_column-requires-4
-mix_column-requires-4 c = tt
+    let s = c.args.s in
+    let n : length s ≡ 4 = search rules in
+    let e : (i : ℕ) → i < 4 → four (get_or c.map.result i 0) ≡ mixed_at (four (get_or s i 0)) 0 = λ i h. search rules in
+    by_columns c.map.result _ c.map.ensures.items.long e ∙ mixed s n

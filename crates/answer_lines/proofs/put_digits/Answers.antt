@@ -1,5 +1,4 @@
 -- `answer_lines::put_digits` meets its contract. Assumes nothing.
-use Prim.Native.Nat.{◌-◌}
 use native.Mathlib.Omega.{arith}
 use lib.ListN.{length-set}
 use Rattle.answer_lines.proofs.Texts.{no_digits, more_digits_put, all_digits_put, digits_put_length}

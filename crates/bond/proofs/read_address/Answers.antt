@@ -13,5 +13,5 @@ returns c =
       element_of_part 0 7 a.at a.s.now (omega arith),
       add-zero,
       within_part 6 1 7 a.at a.s.now (omega arith),
-      ← c.read_bd_addr-addr.ensures,
+      ← c.read_bd_addr.ensures,
     )

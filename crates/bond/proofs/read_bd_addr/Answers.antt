@@ -13,6 +13,6 @@ returns c =
     rw (
       take-take 4 6 (drop a.at a.s.now) (omega arith),
       within_part 2 4 6 a.at a.s.now (omega arith),
-      ← c.read_u32-low.ensures,
-      ← c.read_u16-high.ensures,
+      ← c.read.ensures,
+      ← c.read-2.ensures,
     )

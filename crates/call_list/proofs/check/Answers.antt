@@ -1,46 +1,34 @@
 -- `call_list::check` meets its contract. Assumes nothing.
-use mathlib.Core.Path.{refl, sym, ap, ◌∙◌}
-use Prim.Native.Nat.{◌-◌}
+use mathlib.Core.Path.{sym, ◌∙◌}
 use native.Mathlib.Omega.{arith}
-use Rattle.host.specs.Calls.{body_size}
-use Rattle.call_list.specs.CallList.{checked_of}
-use Rattle.call_list.proofs.Listing.{seen_none, seen_unknown, seen_cut, seen_more, seen_all, last_here, not_last, same_call}
+use Rattle.std.proofs.lemmas.List.{take_rest, nil_from_length}
+use Rattle.call_list.proofs.Listing.{seen_none, seen_unknown, seen_cut, seen_here, seen_other, seen_all, invalid}
 use Rattle.call_list.proofs.check.Goals.{then-count-index, else-count-index}
 use Rattle.call_list.proofs.check.Goals as goal
 
-pub loop-at-init : goal.loop-at-init
-loop-at-init c = (seen_none _ _, refl)
+pub loop-kind-init : goal.loop-kind-init
+loop-kind-init c = seen_none _ _
 
-pub returns-in_default : goal.returns-in_default
-unfolding checked_of
-returns-in_default c = let l = c.loop-at in rw (seen_unknown l.invariant.0 (omega arith) (sym c.body_length.ensures ∙ ap body_size c.in_default.is))
+pub returns-in_err-size : goal.returns-in_err-size
+returns-in_err-size c =
+    let w = rw c.in-Some.ensures.cases.0 at c.loop-kind.invariant in
+    invalid _ c.from_residual.ensures.0 ∙ seen_unknown w (sym c.body_length.ensures ∙ c.in_err-size.ensures.ok_part)
 
-pub returns-then-len-at : goal.returns-then-len-at
-unfolding checked_of
-returns-then-len-at c = let l = c.loop-at in rw (seen_cut l.invariant.0 (omega arith) (sym c.body_length.ensures ∙ ap body_size c.in-Octets.is) (omega arith))
+pub returns-in_err-rest : goal.returns-in_err-rest
+returns-in_err-rest c =
+    let w = rw c.in-Some.ensures.cases.0 at c.loop-kind.invariant in
+    let none = rw c.in_err-rest.ensures.ok_part at c.get.ensures.lookup in
+    invalid _ c.from_residual-in_err-rest.ensures.0 ∙ seen_cut w (sym c.body_length.ensures ∙ c.in_ok-size.ensures.ok_part) (omega arith)
 
-pub overflow_add-count : goal.overflow_add-count
-overflow_add-count c = let w = c.loop-at.invariant.0 in let f = w.few in let h = w.within in omega arith
-
-pub overflow_add-at-in-loop-at : goal.overflow_add-at-in-loop-at
-overflow_add-at-in-loop-at c = omega arith
-
-pub loop-at-smaller : goal.loop-at-smaller
-loop-at-smaller c = omega arith
-
-pub loop-at-preserved : goal.loop-at-preserved
-loop-at-preserved c =
-    let l = c.loop-at in
-    let w = l.invariant.0 in
-    let i = c.args.index in
-    let n = w.number in (
-      seen_more w (omega arith) c.if-count-index.kind c.if-count-index.body (sym c.body_length.ensures ∙ ap body_size c.in-Octets.is) (omega arith)
-          (elim c.if-count-index.branch [
-            | then-count-index t ↦ same_call t.kind-is t.body-is ∙ last_here w.done _ i (omega (arith, t.if-count-index.true))
-            | else-count-index t ↦ same_call t.kind-is t.body-is ∙ w.here ∙ not_last w.done _ i (λ e. t.if-count-index.false (omega arith))
-          ]),
-      refl,
-    )
+pub loop-kind-preserved : goal.loop-kind-preserved
+loop-kind-preserved c =
+    let w = rw c.in-Some.ensures.cases.0 at c.loop-kind.invariant in
+    let part = rw c.in_ok-rest.ensures.ok_part at c.get.ensures.lookup in
+    let size = sym c.body_length.ensures ∙ c.in_ok-size.ensures.ok_part in
+    elim c.if-count-index.branch [
+      | then-count-index t ↦ rw (t.call-is, part.0.2, take_rest) (seen_here w size part.0.0 t.if-count-index.true)
+      | else-count-index t ↦ rw (t.call-is, part.0.2, take_rest) (seen_other w size part.0.0 t.if-count-index.false)
+    ]
 
 pub returns : goal.returns
-returns c = seen_all c.loop-at.invariant.0 (omega arith)
+returns c = seen_all (rw (nil_from_length _ c.in_default.ensures.cases) at c.loop-kind.invariant)

@@ -1,8 +1,6 @@
 -- `lines::put_octets` meets its contract. Assumes nothing.
-use mathlib.Core.Path.{sym, ap, ◌∙◌}
-use Prim.Native.Nat.{◌-◌}
+use mathlib.Core.Path.{sym, ◌∙◌}
 use native.Mathlib.Omega.{arith}
-use Rattle.lines.specs.Lines.{digit_in}
 use Rattle.lines.proofs.Digits.{none_laid, read_bad, read_even, laid_more, laid_all, length_laid}
 use Rattle.lines.proofs.put_octets.Goals as goal
 
@@ -10,13 +8,13 @@ pub shape_of-out-in_default : goal.shape_of-out-in_default
 shape_of-out-in_default c = length_laid c.loop-i.invariant.0 (omega arith)
 
 pub returns-in_default : goal.returns-in_default
-returns-in_default c = absurd (c.requires.0 (read_bad c.loop-i.invariant.0.octets (omega arith) (sym c.octet.ensures ∙ ap digit_in c.in_default.is)))
+returns-in_default c = absurd (c.requires.0 (read_bad c.loop-i.invariant.0.octets (omega arith) (sym c.octet.ensures ∙ c.in_default.is)))
 
 pub bounds-out-i : goal.bounds-out-i
 bounds-out-i c = let n = length_laid c.loop-i.invariant.0 (omega arith) in omega arith
 
 pub loop-i-preserved : goal.loop-i-preserved
-loop-i-preserved c = (laid_more c.loop-i.invariant.0 _ (omega arith) (omega arith) (sym c.octet.ensures ∙ ap digit_in c.in-Value.is), omega arith)
+loop-i-preserved c = (laid_more c.loop-i.invariant.0 _ (omega arith) (omega arith) (sym c.octet.ensures ∙ c.in-Some.is), omega arith)
 
 pub shape_of-out : goal.shape_of-out
 shape_of-out c = length_laid c.loop-i.invariant.0 (omega arith)

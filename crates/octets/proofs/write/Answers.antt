@@ -3,24 +3,17 @@ use mathlib.Core.Path.{sym, ◌∙◌}
 use Prim.Native.Nat.{◌+◌, ◌≤◌}
 use native.Mathlib.Omega.{arith}
 use lib.ListN.{length}
-use Rattle.octets.proofs.Parts.{first_part, fits, fits_not, written, not_written}
+use Rattle.octets.proofs.Parts.{left_out, first_part, fits, written}
 use Rattle.octets.proofs.write.Goals as goal
+use Rattle.octets.proofs.write.Goals.{then-dst-src-via-then-dst-src, then-dst-src-via-else-dst-src+then-dst-src-2}
 
-pub returns-then-room-n : goal.returns-then-room-n
-returns-then-room-n c =
+pub returns-then-dst-src : goal.returns-then-dst-src
+returns-then-dst-src c =
     let a = c.args in
-    record {
-      answer = sym (fits_not a.dst.now a.at a.src.now (omega arith));
-      slice = sym (not_written a.dst.now a.at a.src.now (omega arith));
-    }
-
-pub returns-then-room-n-2 : goal.returns-then-room-n-2
-returns-then-room-n-2 c =
-    let a = c.args in
-    record {
-      answer = sym (fits_not a.dst.now a.at a.src.now (omega arith));
-      slice = sym (not_written a.dst.now a.at a.src.now (omega arith));
-    }
+    elim c.then-dst-src.branch [
+      | then-dst-src-via-then-dst-src w ↦ left_out a.dst.now a.at a.src.now (omega arith)
+      | then-dst-src-via-else-dst-src+then-dst-src-2 w ↦ left_out a.dst.now a.at a.src.now (omega arith)
+    ]
 
 pub returns : goal.returns
 returns c =
@@ -29,6 +22,6 @@ returns c =
     record {
       answer = sym (fits a.dst.now a.at a.src.now h);
       slice =
-          rw c.copy.ensures
+          rw c.copy_from_slice.ensures.after
           (first_part a.dst.now a.at (a.at + length a.src.now) a.src.now (omega arith) ∙ sym (written a.dst.now a.at a.src.now h));
     }

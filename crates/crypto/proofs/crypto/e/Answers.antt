@@ -8,17 +8,5 @@ use Rattle.crypto.proofs.crypto.e.Goals as goal
 pub returns : goal.returns
 unfolding e_of
 returns c =
-    c.from_be_bytes.ensures
-    ∙ ap word_be (c.encrypt.ensures ∙ ap₂ aes128 c.to_be_bytes.ensures c.to_be_bytes-2.ensures)
-
-pub to_be_bytes-requires : goal.to_be_bytes-requires
-to_be_bytes-requires c = tt
-
-pub to_be_bytes-requires-2 : goal.to_be_bytes-requires-2
-to_be_bytes-requires-2 c = tt
-
-pub encrypt-requires : goal.encrypt-requires
-encrypt-requires c = tt
-
-pub from_be_bytes-requires : goal.from_be_bytes-requires
-from_be_bytes-requires c = tt
+    c.word_from_octets_be.ensures
+    ∙ ap word_be (c.encrypt.ensures ∙ ap₂ aes128 c.word_to_octets_be.ensures c.word_to_octets_be-2.ensures)

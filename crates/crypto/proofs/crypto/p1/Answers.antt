@@ -14,6 +14,6 @@ returns c =
     let a = c.args in
     let h : length a.pres ≡ 7 = search rules in
     let g : length a.preq ≡ 7 = search rules in
-    c.from_le_bytes.ensures
+    c.from_octets.ensures.word
     ∙ sym (ap₂ (λ (pres preq : List ℕ). word_of (a.iat ∷ a.rat ∷ (preq ++ pres))) (whole 7 a.pres h) (whole 7 a.preq g))
     ∙ sym (p1_reading a.pres a.preq a.rat a.iat)

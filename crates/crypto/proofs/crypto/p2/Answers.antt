@@ -14,6 +14,6 @@ returns c =
     let a = c.args in
     let h : length a.ia ≡ 6 = search rules in
     let g : length a.ra ≡ 6 = search rules in
-    c.from_le_bytes.ensures
+    c.from_octets.ensures.word
     ∙ sym (ap₂ (λ (ia ra : List ℕ). word_of (ra ++ (ia ++ (0 ∷ 0 ∷ 0 ∷ 0 ∷ [])))) (whole 6 a.ia h) (whole 6 a.ra g))
     ∙ sym (p2_reading a.ia a.ra)
