@@ -101,11 +101,14 @@ one_doubled w =
     let f : w % 256 / 128 % 2 ≡ w % 256 / 128 = omega arith in
     rw (e, f)
 
-pub doubled : (x : ℕ) → four (bit_xor (bit_and x 0x7F7F7F7F * 2) (bit_and x 0x80808080 / 128 * 27)) ≡ map xtime (four x)
+pub doubled : (x : ℕ) → four (bit_xor (bit_and x 0x7F7F7F7F * 2 % 4294967296) (bit_and x 0x80808080 / 128 * 27)) ≡ map xtime (four x)
 unfolding four xor_word
 doubled x =
-    four_xor (bit_and x 0x7F7F7F7F * 2) (bit_and x 0x80808080 / 128 * 27) ∙ ap₂ xor_word (moved_up x) (reduced x)
-    ∙ (λ i. one_doubled x i ∷ one_doubled (x / 256) i ∷ one_doubled (x / 65536) i ∷ one_doubled (x / 16777216) i ∷ [])
+    let h : bit_and x 0x7F7F7F7F ≤ 0x7F7F7F7F = and_le_r x 0x7F7F7F7F in
+    let e : bit_and x 0x7F7F7F7F * 2 % 4294967296 ≡ bit_and x 0x7F7F7F7F * 2 = omega arith in
+    rw e
+    (four_xor (bit_and x 0x7F7F7F7F * 2) (bit_and x 0x80808080 / 128 * 27) ∙ ap₂ xor_word (moved_up x) (reduced x)
+    ∙ (λ i. one_doubled x i ∷ one_doubled (x / 256) i ∷ one_doubled (x / 65536) i ∷ one_doubled (x / 16777216) i ∷ []))
 
 -- ---- a state of four columns, column by column
 pub by_columns : (r : List ℕ) (f : ℕ → List ℕ) → length r ≡ 4 → ((i : ℕ) → i < 4 → four (get_or r i 0) ≡ f i) → octets r ≡ flat_map f (0 ∷ 1 ∷ 2 ∷ 3 ∷ [])

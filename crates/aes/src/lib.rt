@@ -33,6 +33,7 @@ static SBOX: [u8; 256] = [
 static RCON: [u8; 10] = [0x01, 0x02, 0x04, 0x08, 0x10, 0x20, 0x40, 0x80, 0x1B, 0x36];
 
 // The S-box at one octet.
+#[tactic(auto, unfolding(crate::proofs::Substitution::inverses, crate::specs::Gf::bit, crate::specs::Gf::affine_bit, crate::specs::Gf::from_bits, crate::specs::Gf::affine), using(crate::proofs::Substitution::sub_byte_at))]
 fn sub_byte(x: u8) -> u8
     ensures { result ≡ sub_byte x }
 {
@@ -40,6 +41,7 @@ fn sub_byte(x: u8) -> u8
 }
 
 // The S-box at each octet of a word: SubWord.
+#[tactic(auto, unfolding(crate::specs::Columns::four, crate::specs::Aes::sub_word), using(crate::proofs::Columns::joined, crate::proofs::Bounds::sub_octet))]
 fn sub_word(x: u32) -> u32
     ensures { four result ≡ sub_word (four x) }
 {
@@ -47,6 +49,7 @@ fn sub_word(x: u32) -> u32
 }
 
 // A word turned by one octet: RotWord.
+#[tactic(auto, using(crate::proofs::Columns::rotated_word))]
 fn rot_word(x: u32) -> u32
     ensures { four result ≡ rot_word (four x) }
 {
@@ -76,6 +79,7 @@ fn shift_rows(s: Block) -> Block
 }
 
 // The product by {02} of each octet of a column: section 4.2. Octet by octet, a block took 1.8 times as long.
+#[tactic(auto, using(crate::proofs::Columns::doubled))]
 fn double(x: u32) -> u32
     ensures { four result ≡ map xtime (four x) }
 {
@@ -83,6 +87,7 @@ fn double(x: u32) -> u32
 }
 
 // MixColumns on one column: the rows of the matrix are rotations of the first.
+#[tactic(auto, using(crate::proofs::Columns::four_xor, crate::proofs::Xor::mixed))]
 fn mix_column(x: u32) -> u32
     ensures { four result ≡ mixed_at (four x) 0 }
 {
@@ -105,6 +110,7 @@ fn add_round_key(s: Block, k: Block) -> Block
 }
 
 // The round key after k, with the round constant r: four steps of section 5.2.
+#[tactic(auto, using(crate::proofs::Columns::next_words, crate::proofs::Columns::four_xor, crate::proofs::Columns::small))]
 fn next_key(k: Block, r: u8) -> Block
     ensures { octets result ≡ next_key r (octets k) }
 {
@@ -117,6 +123,7 @@ fn next_key(k: Block, r: u8) -> Block
 }
 
 // SubBytes, ShiftRows, MixColumns and AddRoundKey.
+#[tactic(auto, unfolding(crate::specs::Aes::full_round))]
 fn full_round(s: Block, k: Block) -> Block
     ensures { octets result ≡ full_round (octets s) (octets k) }
 {

@@ -161,12 +161,6 @@ abbrev pub stop_found : {A : Type 0} → Stop → Found A
 stop_found Wanted = wanted
 stop_found Refused = refusal answer_refusal
 
--- .. and back; Wanted where there is an answer
-abbrev pub stop_of : {A : Type 0} → Found A → Stop
-stop_of (found a) = Wanted
-stop_of wanted = Wanted
-stop_of (refusal n) = Refused
-
 -- an answer, or why there is none
 abbrev pub found_of : {A : Type 0} → Result A Stop → Found A
 found_of (Ok a) = found a

@@ -1,16 +1,17 @@
-// Answers: records of one octet of kind, the call's, and a body whose length the kind fixes; read at a place. An Err says
-// why there is no answer.
+// Answers: records of one octet of kind, the call's, and a body whose length the kind fixes; read at a place, since a step
+// gives back how many octets it has read. An Err says why there is no answer.
 #![tactic(auto)]
 
-ghost use Rattle.std.specs.Prelude.{◌≡◌, ◌+◌, ◌≤◌, IfOk, IfErr, OnOk, length};
-ghost use Rattle.host.specs.Calls.{question_kind};
-ghost use Rattle.answer.specs.Answers.{found, found_of, stop_found, body_at, verdict_at, flag_at, irk_at, address_at, nonce_at};
-ghost use Rattle.answer.specs.Answers.{pass_key_at, ltk_at, ediv_at, rand_at, encryption_at, bonded_at};
+ghost use Rattle.std.specs.Prelude.{ℕ, List, ◌≡◌, ◌+◌, ◌≤◌, IfOk, IfErr, OnOk, get_or, length};
+ghost use Rattle.octets.specs.Octets.{from_octets, word_of};
+ghost use Rattle.crypto.specs.Crypto.{drawn_nonce};
+ghost use Rattle.bond.specs.Bond.{flag_of, verdict_result};
+ghost use Rattle.answer.specs.Answers.{Found, found, found_of, on_found, stop_found, allowed, body_at};
+ghost use Rattle.answer.specs.Answers.{address_body, pass_key_body, encryption_body, bonded_body};
 
-use bond::{Address, BondInformation, Error, read_address, read_bond, read_flag};
+use bond::{Address, BondInformation, Error, read_flag, read_verdict};
 use crypto::{IdentityResolvingKey, LongTermKey, Nonce};
-use host::{Draw, Question};
-use octets::{octets_at, read, read_word};
+use octets::{Number, octets_at};
 use types::PassKey;
 
 // Why there is no answer: the answers end here, or what is here is refused by 3.
@@ -18,6 +19,150 @@ use types::PassKey;
 pub enum Stop {
     Wanted,
     Refused,
+}
+
+// What is answered in a body of N octets. A body that holds a forbidden value is refused.
+// Each impl repeats the clause: the check cannot give these methods that of the trait.
+pub trait Answer<const N: usize>: Sized {
+    ghost said: { List ℕ → Found Self };
+
+    fn from_body(body: [u8; N]) -> Option<Self>
+        ensures { allowed result (λ a. a) ≡ said body.entry };
+}
+
+// A verdict: on a packet, an event or an update of the bond.
+impl Answer<1> for Result<(), Error> {
+    ghost said = { λ b. found (verdict_result (get_or b 0 0)) };
+
+    fn from_body(body: [u8; 1]) -> Option<Result<(), Error>>
+        ensures { allowed result (λ a. a) ≡ found (verdict_result (get_or body 0 0)) }
+    {
+        Some(read_verdict(body[0]))
+    }
+}
+
+// The yes or no to a question.
+impl Answer<1> for bool {
+    ghost said = { λ b. allowed (flag_of (get_or b 0 0)) (λ yes. yes) };
+
+    fn from_body(body: [u8; 1]) -> Option<bool>
+        ensures { allowed result (λ a. a) ≡ allowed (flag_of (get_or body 0 0)) (λ yes. yes) }
+    {
+        read_flag(body[0])
+    }
+}
+
+impl Answer<16> for IdentityResolvingKey {
+    ghost said = { λ b. found (record { 0 = word_of b }) };
+
+    fn from_body(body: [u8; 16]) -> Option<IdentityResolvingKey>
+        ensures { allowed result (λ a. a) ≡ found (record { 0 = word_of body }) }
+    {
+        Some(IdentityResolvingKey::from_le_bytes(body))
+    }
+}
+
+// Verdict, then the identity address, which a verdict other than 0 leaves out.
+impl Answer<8> for Result<Address, Error> {
+    ghost said = { λ b. found (address_body b) };
+
+    fn from_body(body: [u8; 8]) -> Option<Result<Address, Error>>
+        ensures { allowed result (λ a. a) ≡ found (address_body body) }
+    {
+        let address = Address::from(octets_at(&body, 1));
+        Some(read_verdict(body[0]).map(|()| address))
+    }
+}
+
+// Mrand or Srand, drawn.
+impl Answer<16> for Nonce {
+    ghost said = { λ b. found (drawn_nonce b) };
+
+    fn from_body(body: [u8; 16]) -> Option<Nonce>
+        ensures { allowed result (λ a. a) ≡ found (drawn_nonce body) }
+    {
+        Some(Nonce::new(body))
+    }
+}
+
+// The largest passkey that is drawn.
+const PASSKEY_MAX: u32 = 999999;
+
+impl Answer<4> for PassKey {
+    ghost said = { λ b. pass_key_body (from_octets b) };
+
+    fn from_body(body: [u8; 4]) -> Option<PassKey>
+        ensures { allowed result (λ a. a) ≡ pass_key_body (from_octets body) }
+    {
+        let drawn = u32::from_octets(body);
+        (drawn <= PASSKEY_MAX).then_some(PassKey(drawn))
+    }
+}
+
+impl Answer<16> for LongTermKey {
+    ghost said = { λ b. found (record { 0 = word_of b }) };
+
+    fn from_body(body: [u8; 16]) -> Option<LongTermKey>
+        ensures { allowed result (λ a. a) ≡ found (record { 0 = word_of body }) }
+    {
+        Some(LongTermKey::from_le_bytes(body))
+    }
+}
+
+// EDIV, drawn.
+impl Answer<2> for u16 {
+    ghost said = { λ b. found (from_octets b) };
+
+    fn from_body(body: [u8; 2]) -> Option<u16>
+        ensures { allowed result (λ a. a) ≡ found (from_octets body) }
+    {
+        Some(u16::from_octets(body))
+    }
+}
+
+// Rand, drawn.
+impl Answer<8> for u64 {
+    ghost said = { λ b. found (from_octets b) };
+
+    fn from_body(body: [u8; 8]) -> Option<u64>
+        ensures { allowed result (λ a. a) ≡ found (from_octets body) }
+    {
+        Some(u64::from_octets(body))
+    }
+}
+
+// Verdict, then the bond, which a verdict other than 0 leaves out.
+impl Answer<52> for Result<BondInformation, Error> {
+    ghost said = { encryption_body };
+
+    fn from_body(body: [u8; 52]) -> Option<Result<BondInformation, Error>>
+        ensures { allowed result (λ a. a) ≡ encryption_body body }
+    {
+        if let Err(e) = read_verdict(body[0]) {
+            return Some(Err(e));
+        }
+        let bond = BondInformation::decode(octets_at(&body, 1))?;
+        Some(Ok(bond))
+    }
+}
+
+// Verdict, then present 0/1, which a verdict other than 0 leaves out, then the bond, which absence leaves out.
+impl Answer<53> for Result<Option<BondInformation>, Error> {
+    ghost said = { bonded_body };
+
+    fn from_body(body: [u8; 53]) -> Option<Result<Option<BondInformation>, Error>>
+        ensures { allowed result (λ a. a) ≡ bonded_body body }
+    {
+        if let Err(e) = read_verdict(body[0]) {
+            return Some(Err(e));
+        }
+        let present = read_flag(body[1])?;
+        if !present {
+            return Some(Ok(None));
+        }
+        let bond = BondInformation::decode(octets_at(&body, 2))?;
+        Some(Ok(Some(bond)))
+    }
 }
 
 // The body at a place: wanted where the answers end there; refused where the kind is another or the body is cut.
@@ -35,140 +180,16 @@ fn body_at(answers: &[u8], at: usize, kind: u8, size: usize) -> Result<&[u8], St
     }
 }
 
-// The verdict on a packet, an event or an update of the bond, whose call has this kind.
-#[tactic(auto, unfolding(crate::specs::Answers::verdict_at))]
-pub fn read_verdict(answers: &[u8], at: usize, kind: u8) -> Result<u8, Stop>
-    ensures answer { found_of result ≡ verdict_at answers.now at kind }
-    ensures within { OnOk result (at + 2 ≤ length answers.now) }
-{
-    let body = body_at(answers, at, kind, 1)?;
-    Ok(body[0])
-}
-
-// The yes or no to a question.
-#[tactic(auto, unfolding(crate::specs::Answers::flag_at))]
-pub fn read_yes_no(answers: &[u8], at: usize, question: Question) -> Result<bool, Stop>
-    ensures answer { found_of result ≡ flag_at answers.now at (question_kind question) }
-    ensures within { OnOk result (at + 2 ≤ length answers.now) }
-{
-    let body = body_at(answers, at, question.kind(), 1)?;
-    read_flag(body[0]).ok_or(Stop::Refused)
-}
-
-#[tactic(auto, unfolding(crate::specs::Answers::irk_at))]
-pub fn read_irk(answers: &[u8], at: usize) -> Result<IdentityResolvingKey, Stop>
-    ensures answer { found_of result ≡ irk_at answers.now at }
-    ensures within { OnOk result (at + 17 ≤ length answers.now) }
-{
-    let body = body_at(answers, at, Question::LocalIrk.kind(), 16)?;
-    Ok(IdentityResolvingKey(read_word(body, 0)))
-}
-
-// Verdict, then the identity address, which a verdict other than 0 leaves out.
-#[tactic(auto, unfolding(crate::specs::Answers::address_at))]
-pub fn read_identity_address(answers: &[u8], at: usize) -> Result<Result<Address, Error>, Stop>
-    ensures answer { found_of result ≡ address_at answers.now at }
-    ensures within { OnOk result (at + 9 ≤ length answers.now) }
-{
-    let body = body_at(answers, at, Question::LocalIdentityAddress.kind(), 8)?;
-    let verdict = body[0];
-    if verdict != 0 {
-        return Ok(Err(Error::from_verdict(verdict)));
-    }
-    Ok(Ok(read_address(body, 1)))
-}
-
-#[tactic(auto, unfolding(crate::specs::Answers::nonce_at))]
-pub fn read_nonce(answers: &[u8], at: usize) -> Result<Nonce, Stop>
-    ensures answer { found_of result ≡ nonce_at answers.now at }
-    ensures within { OnOk result (at + 17 ≤ length answers.now) }
-{
-    let body = body_at(answers, at, Draw::Nonce.kind(), 16)?;
-    Ok(Nonce::new(octets_at(body, 0)))
-}
-
-// The largest passkey that is drawn.
-const PASSKEY_MAX: u32 = 999999;
-
-#[tactic(auto, unfolding(crate::specs::Answers::pass_key_at))]
-pub fn read_passkey(answers: &[u8], at: usize) -> Result<PassKey, Stop>
-    ensures answer { found_of result ≡ pass_key_at answers.now at }
-    ensures within { OnOk result (at + 5 ≤ length answers.now) }
-{
-    let body = body_at(answers, at, Draw::PassKey.kind(), 4)?;
-    let drawn = read::<u32, 4>(body, 0);
-    if PASSKEY_MAX < drawn {
-        return Err(Stop::Refused);
-    }
-    Ok(PassKey(drawn))
-}
-
-#[tactic(auto, unfolding(crate::specs::Answers::ltk_at))]
-pub fn read_ltk(answers: &[u8], at: usize) -> Result<LongTermKey, Stop>
-    ensures answer { found_of result ≡ ltk_at answers.now at }
-    ensures within { OnOk result (at + 17 ≤ length answers.now) }
-{
-    let body = body_at(answers, at, Draw::LongTermKey.kind(), 16)?;
-    Ok(LongTermKey(read_word(body, 0)))
-}
-
-#[tactic(auto, unfolding(crate::specs::Answers::ediv_at))]
-pub fn read_ediv(answers: &[u8], at: usize) -> Result<u16, Stop>
-    ensures answer { found_of result ≡ ediv_at answers.now at }
-    ensures within { OnOk result (at + 3 ≤ length answers.now) }
-{
-    let body = body_at(answers, at, Draw::Ediv.kind(), 2)?;
-    Ok(read::<u16, 2>(body, 0))
-}
-
-#[tactic(auto, unfolding(crate::specs::Answers::rand_at))]
-pub fn read_rand(answers: &[u8], at: usize) -> Result<u64, Stop>
-    ensures answer { found_of result ≡ rand_at answers.now at }
-    ensures within { OnOk result (at + 9 ≤ length answers.now) }
-{
-    let body = body_at(answers, at, Draw::Rand.kind(), 8)?;
-    Ok(read::<u64, 8>(body, 0))
-}
-
-// The kind of the call EnableEncryption.
-const ENCRYPTION_KIND: u8 = 0x3A;
-
-// The kind of the call EnableBondedEncryption.
-const BONDED_KIND: u8 = 0x3B;
-
-// Verdict, then the bond, which a verdict other than 0 leaves out.
-#[tactic(auto, unfolding(crate::specs::Answers::encryption_at))]
-pub fn read_encryption(answers: &[u8], at: usize) -> Result<Result<BondInformation, Error>, Stop>
-    ensures answer { found_of result ≡ encryption_at answers.now at }
-    ensures within { OnOk result (at + 53 ≤ length answers.now) }
-{
-    let body = body_at(answers, at, ENCRYPTION_KIND, 52)?;
-    let verdict = body[0];
-    if verdict != 0 {
-        return Ok(Err(Error::from_verdict(verdict)));
-    }
-    let bond = read_bond(body, 1).ok_or(Stop::Refused)?;
-    Ok(Ok(bond))
-}
-
-// Verdict, then present 0/1, which a verdict other than 0 leaves out, then the bond, which absence leaves out.
-#[tactic(auto, unfolding(crate::specs::Answers::bonded_at))]
-pub fn read_bonded_encryption(
+// The answer at a place to a call of this kind. By number: a call to send has its packet, event or bond with it, which
+// no answer needs.
+pub fn read_answer<T: Answer<N>, const N: usize>(
     answers: &[u8],
     at: usize,
-) -> Result<Result<Option<BondInformation>, Error>, Stop>
-    ensures answer { found_of result ≡ bonded_at answers.now at }
-    ensures within { OnOk result (at + 54 ≤ length answers.now) }
+    kind: u8,
+) -> Result<T, Stop>
+    ensures answer { found_of result ≡ on_found (body_at answers.now at kind N) T.said }
+    ensures within { OnOk result (at + (1 + N) ≤ length answers.now) }
 {
-    let body = body_at(answers, at, BONDED_KIND, 53)?;
-    let verdict = body[0];
-    if verdict != 0 {
-        return Ok(Err(Error::from_verdict(verdict)));
-    }
-    let present = read_flag(body[1]).ok_or(Stop::Refused)?;
-    if !present {
-        return Ok(Ok(None));
-    }
-    let bond = read_bond(body, 2).ok_or(Stop::Refused)?;
-    Ok(Ok(Some(bond)))
+    let body = body_at(answers, at, kind, N)?;
+    T::from_body(octets_at(body, 0)).ok_or(Stop::Refused)
 }

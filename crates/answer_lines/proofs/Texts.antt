@@ -1,18 +1,23 @@
 -- Laws of the texts that are written. Assumes nothing.
 use mathlib.Core.Path.{◌≡◌, refl, sym, ap, ◌∙◌}
-use mathlib.Core.List.{List, [], ◌∷◌, ◌++◌, append_assoc, append-nil}
-use Prim.Native.Nat.{ℕ, ◌+◌, ◌*◌, ◌/◌, ◌%◌, ◌≤◌, ◌<◌}
-use native.Mathlib.Numerals.{add-one}
+use mathlib.Core.List.{List, [], ◌∷◌, ◌++◌, append_assoc}
+use Prim.Native.Nat.{ℕ, suc, ◌-◌, ◌+◌, ◌*◌, ◌/◌, ◌%◌, ◌≤◌, ◌<◌}
 use native.Mathlib.Omega.{arith}
-use lib.ListN.{length, get_or, take, drop, set, length-append, length-drop, drop_of_length-le}
-use lib.Seq.{take_all, take-suc, drop_at, set_at, length-take-le}
+use lib.ListN.{length, take, drop, length-append}
 use Rattle.octets.specs.Octets.{write_at}
-use Rattle.octets.proofs.Parts.{written}
+use Rattle.octets.proofs.Parts.{first_part, written}
 use Rattle.record.proofs.Pieces.{two, four}
 use Rattle.record.specs.Record.{machine_octets}
 use Rattle.protocol.specs.declared.Stepped.{Stepped}
+use Rattle.lines.specs.Text.{minus}
 use Rattle.answer_lines.specs.AnswerLines.{digit_text, digits_text, octets_text, head_text, rest_text, answer_text}
-use Rattle.lines.proofs.Digits.{two_digits}
+use Rattle.hex.specs.Hex.{IsBytes, lower_digits, encode_with, encode_lower}
+use Rattle.std.specs.Prelude.{slice_index}
+use Rattle.std.proofs.lemmas.Bool.{agree_below_at}
+use borrow.Author.Tests.{eqb-true}
+use borrow.Rule.Slice.PartMut.{put_mid}
+use lib.Dec.{eqb}
+use mathlib.Core.Bool.{true}
 
 -- ---- octets as digits
 
@@ -20,6 +25,11 @@ pub digits_length : (o : List ℕ) → length (digits_text o) ≡ 2 * length o
 unfolding digits_text
 digits_length [] = refl
 digits_length (x ∷ o) = let n = digits_length o in omega arith
+
+pub octets_none : (o : List ℕ) → length o ≡ 0 → octets_text o ≡ minus ∷ []
+unfolding octets_text
+octets_none [] h = refl
+octets_none (x ∷ o) h = absurd (omega arith)
 
 pub octets_digits : (o : List ℕ) → (length o ≡ 0 → ⊥) → octets_text o ≡ digits_text o
 unfolding octets_text
@@ -39,68 +49,21 @@ unfolding octets_text
 octets_at_most [] = omega arith
 octets_at_most (x ∷ o) = let n = digits_length (x ∷ o) in omega arith
 
-digits_one_more : (o : List ℕ) (x : ℕ) → digits_text (o ++ (x ∷ [])) ≡ digits_text o ++ (digit_text (x / 16) ∷ digit_text (x % 16) ∷ [])
-unfolding digits_text
-digits_one_more [] x = refl
-digits_one_more (y ∷ o) x = ap (λ (l : List ℕ). digit_text (y / 16) ∷ digit_text (y % 16) ∷ l) (digits_one_more o x)
+-- the digits are those that `hex` writes
+same_digit : (v : ℕ) → v < 16 → slice_index lower_digits v ≡ digit_text v
+same_digit v h = eqb-true (slice_index lower_digits v) (digit_text v) (agree_below_at (λ d. eqb (slice_index lower_digits d) (digit_text d)) (λ d. true) 16 v refl h)
 
--- two places are set, behind what was written
-two_set : (p r : List ℕ) (u v a b n : ℕ) → length p ≡ n → set (set (p ++ (u ∷ v ∷ r)) n a) (n + 1) b ≡ (p ++ (a ∷ b ∷ [])) ++ r
-two_set p r u v a b n e =
-    let q : List ℕ = p ++ (a ∷ []) in
-    let m : length q ≡ n + 1 = rw length-append (omega arith) in
-    ap (λ (s : List ℕ). set s (n + 1) b) (set_at p u (v ∷ r) a n e ∙ sym (append_assoc p (a ∷ []) (v ∷ r)))
-    ∙ set_at q v r b (n + 1) m
-    ∙ append_assoc p (a ∷ []) (b ∷ r)
-    ∙ sym (append_assoc p (a ∷ b ∷ []) r)
+pub digits_by_hex : (o : List ℕ) → IsBytes o → encode_lower o ≡ digits_text o
+unfolding digits_text encode_with
+digits_by_hex [] h = refl
+digits_by_hex (x ∷ o) h =
+    let b : x < 256 = h 0 in
+    rw (same_digit (x / 16) (omega arith), same_digit (x % 16) (omega arith), digits_by_hex o (λ i. h (suc i)))
 
--- the digits of the first i octets have been written
-pub record DigitsPut (octets buffer : List ℕ) (i : ℕ) (left : List ℕ) : Type 0 where
-  pub bound : i ≤ length octets
-  pub slice : left ≡ digits_text (take i octets) ++ drop (2 * i) buffer
-
-module _ (octets buffer : List ℕ) (size : length buffer ≡ 2 * length octets) where
-  pub no_digits : DigitsPut octets buffer 0 buffer
-  unfolding digits_text
-  no_digits = record { bound = omega arith; slice = refl }
-
-  pub digits_put_length : {i : ℕ} {left : List ℕ} → DigitsPut octets buffer i left → length left ≡ length buffer
-  digits_put_length {i} w =
-      let bound = w.bound in
-      let n = digits_length (take i octets) in
-      let m = length-take-le i octets bound in
-      ap length w.slice ∙ simp (length-append, length-drop) (omega arith)
-
-  pub more_digits_put : {i a b : ℕ} {left : List ℕ} → DigitsPut octets buffer i left → i < length octets
-      → a ≡ digit_text (get_or octets i 0 / 16) → b ≡ digit_text (get_or octets i 0 % 16) → DigitsPut octets buffer (i + 1) (set (set left (2 * i) a) (2 * i + 1) b)
-  more_digits_put {i} {a} {b} {left} w h p q =
-      let bound = w.bound in
-      let front = digits_text (take i octets) in
-      let n : length front ≡ 2 * i = digits_length (take i octets) ∙ ap (λ (k : ℕ). 2 * k) (length-take-le i octets bound) in
-      let rest = drop (2 * (i + 1)) buffer in
-      let last : digits_text (take (i + 1) octets) ≡ front ++ (a ∷ b ∷ []) =
-      rw (add-one, take-suc octets i 0 h, digits_one_more (take i octets) (get_or octets i 0), p, q) in
-      record {
-        bound = omega arith;
-        slice =
-            ap (λ (s : List ℕ). set (set s (2 * i) a) (2 * i + 1) b) (w.slice ∙ ap (λ (s : List ℕ). front ++ s) (two_digits buffer i (omega arith)))
-            ∙ two_set front rest (get_or buffer (2 * i) 0) (get_or buffer (2 * i + 1) 0) a b (2 * i) n
-            ∙ ap (λ (s : List ℕ). s ++ rest) (sym last);
-      }
-
-  pub all_digits_put : {i : ℕ} {left : List ℕ} → DigitsPut octets buffer i left → length octets ≤ i → left ≡ digits_text octets
-  all_digits_put {i} w h =
-      let bound = w.bound in
-      w.slice ∙ rw (take_all i octets h, drop_of_length-le buffer {i = 2 * i} (omega arith), append-nil)
-
--- ---- a text in a buffer that is filled from its end
-
--- a word in front
-pub word_in_front : (o w : List ℕ) (at to : ℕ) → at + length w ≡ to → to ≤ length o → drop at (write_at o at w) ≡ w ++ drop to o
-word_in_front o w at to e h =
-    ap (drop at) (written o at w (omega arith))
-    ∙ drop_at (take at o) (w ++ drop (at + length w) o) at (length-take-le at o (omega arith))
-    ∙ ap (λ (n : ℕ). w ++ drop n o) e
+-- a part that is lent, and comes back as w
+pub part_written : (s : List ℕ) (a e : ℕ) {q w : List ℕ} → q ≡ w → a + length w ≡ e → e ≤ length s → put_mid a (e - a) s q ≡ write_at s a w
+part_written s a e {q} {w} f n h =
+    first_part s a e q (omega arith) ∙ ap (λ (l : List ℕ). take a s ++ (l ++ drop e s)) f ∙ ap (λ (k : ℕ). take a s ++ (w ++ drop k s)) (sym n) ∙ sym (written s a w (omega arith))
 
 -- ---- five pieces that are written one behind the other are written as one
 

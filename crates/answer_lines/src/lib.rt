@@ -1,141 +1,85 @@
 // The answer to a step line: OUTCOME READ WRITTEN MACHINE LIST, with its line feed.
 #![tactic(auto)]
 
-ghost use Rattle.std.specs.Prelude.{◌≡◌, ◌++◌, ◌∷◌, [], ◌+◌, ◌*◌, ◌≤◌, ◌<◌, length, drop};
+ghost use Rattle.std.specs.Prelude.{◌≡◌, ◌++◌, ◌∷◌, [], ◌+◌, ◌≤◌, length};
+ghost use Rattle.arrayvec.specs.ArrayString.{array_string_len};
 ghost use Rattle.octets.specs.Octets.{write_at};
 ghost use Rattle.lines.specs.Text.{space, line_feed};
-ghost use Rattle.answer_lines.specs.AnswerLines.{decimal, digit_text, digits_text, octets_text, outcome_text, head_text, answer_text, malformed_text, TextWritten};
+ghost use Rattle.answer_lines.specs.AnswerLines.{octets_text, outcome_text, head_text, answer_text, malformed_text, TextWritten};
 
+use arrayvec::ArrayString;
+use hex::encode_to_slice;
+use itoa::Buffer;
 use octets::write;
 use protocol::{Outcome, Stepped};
 use record::{RECORD_SIZE, machine_octets};
 
-// A text in a buffer that is filled from its end: it begins at a place.
-#[derive(Clone, Copy)]
-struct Text {
-    octets: [u8; 96],
-    at: usize,
-    ghost inside: { at ≤ 96 },
-}
+// The longest OUTCOME, READ and WRITTEN: `refused` and 3 digits, twice 20 digits, and 3 spaces.
+const HEAD_SIZE: usize = 53;
 
-impl Text {
-    // A word in front.
-    // requires because it has no refusal: the caller keeps the buffer long enough.
-    fn put_word(&mut self, word: &[u8])
-        requires { length word.now ≤ self.old.at }
-        ensures text { drop self.new.at self.new.octets ≡ word.now ++ drop self.old.at self.old.octets }
-        ensures place { self.new.at + length word.now ≡ self.old.at }
-    {
-        let at = self.at - word.len();
-        write(&mut self.octets, at, word);
-        self.at = at;
-    }
-
-    // A number in front.
-    // requires because it has no refusal: the caller keeps 20 places free.
-    fn put_decimal(&mut self, n: usize)
-        requires { 20 ≤ self.old.at }
-        ensures text { drop self.new.at self.new.octets ≡ decimal n ++ drop self.old.at self.old.octets }
-        ensures places { self.old.at ≤ self.new.at + 20 }
-    {
-        let mut rest = n;
-        while 10 <= rest {
-            self.put_word(&[b'0' + (rest % 10) as u8]);
-            rest /= 10;
-        }
-        self.put_word(&[b'0' + rest as u8]);
-    }
-
-    // OUTCOME in front.
-    // requires because it has no refusal: the caller keeps 27 places free.
-    #[tactic(auto, unfolding(crate::specs::AnswerLines::outcome_text))]
-    fn put_outcome(&mut self, outcome: Outcome)
-        requires { 27 ≤ self.old.at }
-        ensures { drop self.new.at self.new.octets ≡ outcome_text outcome ++ drop self.old.at self.old.octets }
-    {
-        match outcome {
-            Outcome::Ended => self.put_word(b"ended"),
-            Outcome::Wants => self.put_word(b"wants"),
-            Outcome::Refused(refusal) => {
-                self.put_decimal(u8::from(refusal) as usize);
-                self.put_word(b"refused");
-            }
-        }
-    }
-
-    // OUTCOME, READ and WRITTEN, with a space behind each.
-    fn head(outcome: Outcome, read: usize, written: usize) -> Text
-        ensures { drop result.at result.octets ≡ head_text outcome read written }
-    {
-        let mut text = Text {
-            octets: [0; 96],
-            at: 96,
-        };
-        text.put_word(b" ");
-        text.put_decimal(written);
-        text.put_word(b" ");
-        text.put_decimal(read);
-        text.put_word(b" ");
-        text.put_outcome(outcome);
-        text
-    }
-
-    fn as_slice(&self) -> &[u8]
-        ensures { result.now ≡ drop self.now.at self.now.octets }
-    {
-        &self.octets[self.at..]
-    }
-}
-
-// A lower-case hexadecimal digit.
-// requires because only 16 values have a digit.
-fn digit_text(v: u8) -> u8
-    requires { v < 16 }
-    ensures { result ≡ digit_text v }
+// OUTCOME.
+#[tactic(auto, unfolding(crate::specs::AnswerLines::outcome_text), using(crate::proofs::Decimals::same_decimal))]
+fn outcome_text(outcome: Outcome) -> ArrayString<HEAD_SIZE>
+    ensures text { result.bytes ≡ outcome_text outcome }
+    ensures short { array_string_len result ≤ 10 }
 {
-    if v < 10 { b'0' + v } else { b'a' + (v - 10) }
+    let mut text = ArrayString::new();
+    match outcome {
+        Outcome::Ended => text.push_str("ended"),
+        Outcome::Wants => text.push_str("wants"),
+        Outcome::Refused(refusal) => {
+            let mut number = Buffer::new();
+            text.push_str("refused");
+            text.push_str(number.format(u8::from(refusal)));
+        }
+    }
+    text
 }
 
-// Two digits to each octet, over all of part.
+// OUTCOME, READ and WRITTEN, with a space behind each.
+fn head(outcome: Outcome, read: usize, written: usize) -> ArrayString<HEAD_SIZE>
+    ensures { result.bytes ≡ head_text outcome read written }
+{
+    let mut number = Buffer::new();
+    let mut text = outcome_text(outcome);
+    text.push(' ');
+    text.push_str(number.format(read));
+    text.push(' ');
+    text.push_str(number.format(written));
+    text.push(' ');
+    text
+}
+
+// Octets over all of part; `-` where there are none.
 // requires because it has no refusal: the caller lends a part of the right length.
-fn put_digits(octets: &[u8], part: &mut [u8])
-    requires { length part.old ≡ 2 * length octets.now }
-    ensures { part.new ≡ digits_text octets.now }
+#[tactic(auto, using(crate::proofs::Texts::octets_none, crate::proofs::Texts::octets_digits, crate::proofs::Texts::octets_length, crate::proofs::Texts::digits_by_hex))]
+fn put_field(octets: &[u8], part: &mut [u8])
+    requires { length part.old ≡ length (octets_text octets.now) }
+    ensures { part.new ≡ octets_text octets.now }
 {
-    let n = octets.len();
-    // by index: what `chunks_exact_mut` lends piece by piece is not known to be the whole part again
-    for i in 0..n {
-        let b = octets[i];
-        part[2 * i] = digit_text(b / 16);
-        part[2 * i + 1] = digit_text(b % 16);
+    if octets.is_empty() {
+        part.copy_from_slice(b"-");
+    } else {
+        let _ = encode_to_slice(octets, part);
     }
-}
-
-// Octets from a place of out on; `-` where there are none.
-// requires because it has no refusal: the caller has tested the room.
-fn put_field(octets: &[u8], out: &mut [u8], at: usize)
-    requires { at + length (octets_text octets.now) ≤ length out.old }
-    ensures { out.new ≡ write_at out.old at (octets_text octets.now) }
-{
-    let n = octets.len();
-    if n == 0 {
-        write(out, at, b"-");
-        return;
-    }
-    let end = at + 2 * n;
-    put_digits(octets, &mut out[at..end]);
 }
 
 // How many octets the text of a list has.
+#[tactic(auto, using(crate::proofs::Texts::octets_none, crate::proofs::Texts::octets_length))]
 fn field_length(octets: &[u8]) -> usize
     ensures { result ≡ length (octets_text octets.now) }
 {
-    let n = octets.len();
-    if n == 0 { 1 } else { 2 * n }
+    if octets.is_empty() {
+        1
+    } else {
+        2 * octets.len()
+    }
 }
 
 // The head of an answer, and MACHINE and LIST behind it, at the front of a buffer that has room.
+// At places: out may be longer than the line, and splitting field after field off it is no plainer.
 // requires because it has no refusal: the caller has tested the room.
+#[tactic(auto, using(crate::proofs::Texts::octets_length))]
 fn put_answer(head: &[u8], machine: &[u8; RECORD_SIZE], list: &[u8], out: &mut [u8])
     requires { length head.now + 324 + length (octets_text list.now) ≤ length out.old }
     ensures { out.new ≡ write_at out.old 0 (head.now ++ (octets_text machine.now ++ (space ∷ (octets_text list.now ++ (line_feed ∷ []))))) }
@@ -144,19 +88,21 @@ fn put_answer(head: &[u8], machine: &[u8; RECORD_SIZE], list: &[u8], out: &mut [
     let list_at = machine_at + 323;
     let end = list_at + field_length(list);
     write(out, 0, head);
-    put_field(machine, out, machine_at);
+    put_field(machine, &mut out[machine_at..list_at - 1]);
     write(out, list_at - 1, b" ");
-    put_field(list, out, list_at);
+    put_field(list, &mut out[list_at..end]);
     write(out, end, b"\n");
 }
 
 // The answer line at the front of out, and how many octets it has; None where it does not fit, and nothing is written.
+// out is lent, and no buffer returned, since there is no heap.
+#[tactic(auto, unfolding(crate::specs::AnswerLines::answer_text, crate::specs::AnswerLines::rest_text), using(crate::proofs::Texts::answer_length_lem, crate::proofs::Texts::octets_at_least, crate::proofs::Texts::octets_at_most, octets::proofs::Parts::fits, octets::proofs::Parts::fits_not, octets::proofs::Parts::not_written))]
 pub fn write_answer(stepped: Stepped, list: &[u8], out: &mut [u8]) -> Option<usize>
     ensures { TextWritten out.old (answer_text stepped list.now) result out.new }
 {
     let machine = machine_octets(stepped.machine);
-    let text = Text::head(stepped.outcome, stepped.read, stepped.written);
-    let head = text.as_slice();
+    let text = head(stepped.outcome, stepped.read, stepped.written);
+    let head = text.as_str().as_bytes();
     if out.len() / 2 < list.len() {
         return None;
     }

@@ -1,6 +1,6 @@
 -- Believed: the archive's contracts and demand 3 rest on it.
 -- Addresses, errors and bonds, and the octets that document 01 gives them ("Paired or failed"). Assumes nothing.
-use Rattle.std.specs.Prelude.{ℕ, Bool, true, false, cond, List, [], ◌∷◌, ◌++◌, eqb, get_or, take, drop, replicate, Option, Some, None, is_some}
+use Rattle.std.specs.Prelude.{ℕ, Bool, true, false, cond, List, [], ◌∷◌, ◌++◌, eqb, get_or, take, drop, replicate, Option, Some, None, is_some, Result, Ok, Err}
 use Rattle.octets.specs.Octets.{from_octets, to_octets, octets_of, word_of}
 use Rattle.types.specs.Types.{reason_code}
 use Rattle.bond.specs.declared.BdAddr.{BdAddr}
@@ -33,6 +33,10 @@ address_type a = cond (eqb a.kind 0) 0 1
 -- 1 out of memory, others a host error with that octet
 abbrev pub verdict_error : ℕ → Error
 verdict_error v = cond (eqb v 1) OutOfMemory (Host v)
+
+-- 0 done
+abbrev pub verdict_result : ℕ → Result (Unit {0}) Error
+verdict_result v = cond (eqb v 0) (Ok tt) (Err (verdict_error v))
 
 -- 1 security and reason code, 2 InvalidState, 3 InvalidValue, 4 out of memory (detail 0), 5 host and verdict
 abbrev pub failed_body : Error → List ℕ

@@ -3,10 +3,10 @@
 
 ghost use Rattle.std.specs.Prelude.{◌≡◌, ◌+◌, ◌≤◌, length, take, drop};
 ghost use Rattle.bond.specs.Bond.{bd_addr_of, bd_addr_octets, address_of, address_octets, address_type};
-ghost use Rattle.bond.specs.Bond.{failed_body, verdict_error, flag_of, bond_octets, bond_of, bond_or_zeros};
+ghost use Rattle.bond.specs.Bond.{failed_body, verdict_error, verdict_result, flag_of, bond_octets, bond_of, option_bond_octets};
 
 use crypto::{IdentityResolvingKey, LongTermKey};
-use octets::{read, read_word, write};
+use octets::{Number, octets_at, write};
 use types::Reason;
 
 // A device address of six octets: `low + 2^32 * high`. Two numbers and no array, so that in the definitions, too, every
@@ -19,10 +19,15 @@ pub struct BdAddr {
 
 impl BdAddr {
     // From 6 octets, least significant first.
+    #[tactic(auto, unfolding(crate::specs::Bond::bd_addr_of))]
     pub fn new(val: [u8; 6]) -> BdAddr
         ensures { result ≡ bd_addr_of val }
     {
-        read_bd_addr(&val, 0)
+        let [a, b, c, d, e, f] = val;
+        BdAddr {
+            low: u32::from_le_bytes([a, b, c, d]),
+            high: u16::from_le_bytes([e, f]),
+        }
     }
 
     // To 6 octets, least significant first.
@@ -37,6 +42,7 @@ impl BdAddr {
 }
 
 // A device address and its kind. Kind 0 is public; every other octet is kept.
+// The kind is a number: the host may give any octet.
 #[derive(Clone, Copy, PartialEq, Eq)]
 pub struct Address {
     pub kind: u8,
@@ -62,27 +68,17 @@ impl Address {
     }
 }
 
-// The six octets at a place of a slice.
-// requires because it gives an address and has no refusal: the caller has tested the slice's length.
-pub fn read_bd_addr(s: &[u8], at: usize) -> BdAddr
-    requires { at + 6 ≤ length s.now }
-    ensures { result ≡ bd_addr_of (take 6 (drop at s.now)) }
-{
-    BdAddr {
-        low: read::<u32, 4>(s, at),
-        high: read::<u16, 2>(s, at + 4),
-    }
-}
+// From 7 octets: the kind, then the address.
+impl From<[u8; 7]> for Address {
+    ghost from_gives = { λ octets address. address ≡ address_of octets };
 
-// The address at a place of a slice.
-// requires because it gives an address and has no refusal: the caller has tested the slice's length.
-pub fn read_address(s: &[u8], at: usize) -> Address
-    requires { at + 7 ≤ length s.now }
-    ensures { result ≡ address_of (take 7 (drop at s.now)) }
-{
-    Address {
-        kind: s[at],
-        addr: read_bd_addr(s, at + 1),
+    #[tactic(auto, unfolding(crate::specs::Bond::address_of))]
+    fn from(octets: [u8; 7]) -> Address {
+        let [kind, a, b, c, d, e, f] = octets;
+        Address {
+            kind,
+            addr: BdAddr::new([a, b, c, d, e, f]),
+        }
     }
 }
 
@@ -123,6 +119,16 @@ impl Error {
     }
 }
 
+// A verdict: 0 done, or the error that it stands for.
+pub fn read_verdict(verdict: u8) -> Result<(), Error>
+    ensures { result ≡ verdict_result verdict }
+{
+    match verdict {
+        0 => Ok(()),
+        _ => Err(Error::from_verdict(verdict)),
+    }
+}
+
 // A yes/no octet is 0 or 1.
 pub fn read_flag(octet: u8) -> Option<bool>
     ensures { result ≡ flag_of octet }
@@ -134,7 +140,8 @@ pub fn read_flag(octet: u8) -> Option<bool>
     }
 }
 
-// Identity of a peer device: its identity address, and its IRK (all zero: none).
+// Identity of a peer device: its identity address, and its IRK.
+// No Option of the IRK, which the Rust has: the bond's 16 octets hold zeros for none, and are kept as they came.
 #[derive(Clone, Copy, PartialEq, Eq)]
 pub struct Identity {
     pub addr: Address,
@@ -148,7 +155,7 @@ pub struct BondInformation {
     pub ediv: u16,
     pub rand: u64,
     pub is_bonded: bool,
-    // 1 Encrypted, 2 EncryptedAuthenticated, others the host's
+    // 1 Encrypted, 2 EncryptedAuthenticated, others the host's: a number, since the host may give any octet
     pub security_level: u8,
     pub identity: Identity,
 }
@@ -171,34 +178,37 @@ impl BondInformation {
         write(&mut octets, 44, &self.identity.addr.encode());
         octets
     }
-}
 
-// The 51 octets of a bond, zeros where there is none.
-pub fn encode_bond(bond: Option<BondInformation>) -> [u8; 51]
-    ensures { result ≡ bond_or_zeros bond }
-{
-    match bond {
-        Some(bond) => bond.encode(),
-        None => [0; 51],
+    // Of the 51 octets; where the yes/no octet of `is_bonded` is neither, there is no bond.
+    #[tactic(auto, unfolding(crate::specs::Bond::bond_of, crate::specs::Bond::bond_with))]
+    pub fn decode(octets: [u8; 51]) -> Option<BondInformation>
+        ensures { result ≡ bond_of octets }
+    {
+        Some(BondInformation {
+            ltk: LongTermKey::from_le_bytes(octets_at(&octets, 0)),
+            ediv: u16::from_octets(octets_at(&octets, 16)),
+            rand: u64::from_octets(octets_at(&octets, 18)),
+            is_bonded: read_flag(octets[26])?,
+            security_level: octets[27],
+            identity: Identity {
+                irk: IdentityResolvingKey::from_le_bytes(octets_at(&octets, 28)),
+                addr: Address::from(octets_at(&octets, 44)),
+            },
+        })
     }
 }
 
-// The bond at a place of a slice; where its yes/no octet is neither, there is none.
-// requires because it has no refusal for a cut bond: the caller has tested the slice's length.
-pub fn read_bond(s: &[u8], at: usize) -> Option<BondInformation>
-    requires { at + 51 ≤ length s.now }
-    ensures { result ≡ bond_of (take 51 (drop at s.now)) }
+// Whether there is a bond, 0 or 1, then its 51 octets, or zeros where there is none.
+#[tactic(auto, unfolding(octets::specs::Octets::fits_at, octets::specs::Octets::write_at))]
+pub fn encode_option_bond(bond: Option<BondInformation>) -> [u8; 52]
+    ensures { result ≡ option_bond_octets bond }
 {
-    let is_bonded = read_flag(s[at + 26])?;
-    Some(BondInformation {
-        ltk: LongTermKey(read_word(s, at)),
-        ediv: read::<u16, 2>(s, at + 16),
-        rand: read::<u64, 8>(s, at + 18),
-        is_bonded,
-        security_level: s[at + 27],
-        identity: Identity {
-            addr: read_address(s, at + 44),
-            irk: IdentityResolvingKey(read_word(s, at + 28)),
-        },
-    })
+    let bond_or_zeros = match bond {
+        Some(bond) => bond.encode(),
+        None => [0; 51],
+    };
+    let mut octets = [0; 52];
+    write(&mut octets, 0, &[u8::from(bond.is_some())]);
+    write(&mut octets, 1, &bond_or_zeros);
+    octets
 }

@@ -10,7 +10,6 @@ use native.Mathlib.Omega.{arith}
 use lib.ListN.{length, take, drop, length-append, length-drop, take-append-drop}
 use lib.Seq.{length-take-le, drop-append_seam}
 use Rattle.octets.specs.Answer.{Answer, refused, accepted, and_then}
-use Rattle.types.proofs.Tables.{refused≢accepted}
 use Rattle.host.specs.Calls.{kind_of, body_of, call_octets, calls_octets, body_length}
 use Rattle.call_list.specs.CallList.{begins, calls_from, calls_of, call_in, call_at_of, size_of, checked_of, count_of, list_answer}
 use Rattle.host.specs.declared.call.Call.{Call}
@@ -58,38 +57,32 @@ read_back cs = read_from cs 0
 
 -- ---- what reads is those kinds and bodies laid end to end
 
-call_first : {r s : CallRecord} {rs ss : List CallRecord} → ◌≡◌ {A = Answer (List CallRecord)} (accepted (r ∷ rs)) (accepted (s ∷ ss)) → (r ≡ s) × (rs ≡ ss)
-call_first e = (cc, cc)
-
-no_call_lem : {r : CallRecord} {rs : List CallRecord} → ◌≡◌ {A = Answer (List CallRecord)} (accepted []) (accepted (r ∷ rs)) → ⊥
-no_call_lem e = let z : ◌≡◌ {A = ℕ} 0 1 = cc in omega arith
-
 -- a body that was passed over is whole
 body_whole : (n at : ℕ) (l : List ℕ) {rs : List CallRecord} → calls_from at n l ≡ accepted rs → n ≤ length l
 unfolding calls_from
 body_whole zero at l e = zero-le
-body_whole (suc n) at [] e = absurd (refused≢accepted e)
+body_whole (suc n) at [] e = cc
 body_whole (suc n) at (x ∷ l) e = suc-le-suc (body_whole n (suc at) l e)
 
 -- a call of kind k and the rest that was read behind it
 behind : (k at : ℕ) (x : Option ℕ) (l : List ℕ) (r : CallRecord) (rs : List CallRecord) → body_length k ≡ x
     → begins k (suc at) x (λ size. calls_from (suc at) size l) ≡ accepted (r ∷ rs)
     → (r ≡ record { kind = k; body = suc at }) × (calls_from (suc at) (size_of x) l ≡ accepted rs)
-behind k at None l r rs p e = absurd (refused≢accepted e)
+behind k at None l r rs p e = cc
 behind k at (Some n) l r rs p e = onto (calls_from (suc at) n l) e
   where
     onto : (y : Answer (List CallRecord)) → and_then y (λ calls. accepted (record { kind = k; body = suc at } ∷ calls)) ≡ accepted (r ∷ rs)
         → (r ≡ record { kind = k; body = suc at }) × (y ≡ accepted rs)
-    onto (refused m) e = absurd (refused≢accepted e)
-    onto (accepted calls) e = let q = call_first e in (sym q.0, ap accepted q.1)
+    onto (refused m) e = cc
+    onto (accepted calls) e = (cc, cc)
 
 nothing_begins : (k at : ℕ) (x : Option ℕ) (l : List ℕ) → begins k (suc at) x (λ size. calls_from (suc at) size l) ≡ accepted [] → ⊥
-nothing_begins k at None l e = refused≢accepted e
+nothing_begins k at None l e = cc
 nothing_begins k at (Some n) l e = onto (calls_from (suc at) n l) e
   where
     onto : (y : Answer (List CallRecord)) → and_then y (λ calls. accepted (record { kind = k; body = suc at } ∷ calls)) ≡ accepted [] → ⊥
-    onto (refused m) e = refused≢accepted e
-    onto (accepted calls) e = no_call_lem (sym e)
+    onto (refused m) e = cc
+    onto (accepted calls) e = cc
 
 -- the kinds of calls, each with its body in l
 abbrev pub end_to_end : List ℕ → List CallRecord → List ℕ
@@ -99,7 +92,7 @@ end_to_end l (c ∷ calls) = c.kind ∷ (take (size_of (body_length c.kind)) (dr
 laid_from : (rs : List CallRecord) (pre l : List ℕ) → calls_from (length pre) 0 l ≡ accepted rs → l ≡ end_to_end (pre ++ l) rs
 unfolding calls_from
 laid_from [] pre [] e = refl
-laid_from (r ∷ rs) pre [] e = absurd (no_call_lem e)
+laid_from (r ∷ rs) pre [] e = cc
 laid_from [] pre (k ∷ l) e = absurd (nothing_begins k (length pre) (body_length k) l e)
 laid_from (r ∷ rs) pre (k ∷ l) e =
     let at = length pre in

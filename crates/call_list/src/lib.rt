@@ -7,6 +7,7 @@ ghost use Rattle.call_list.specs.CallList.{list_answer, count_of, call_at_of, ch
 use host::call::body_length;
 
 // A call of a list: its kind, and the place of its body.
+// `octet_values::Call` has the size beside it, which the kind fixes.
 #[derive(Clone, Copy, PartialEq, Eq)]
 pub struct CallRecord {
     pub kind: u8,
@@ -18,6 +19,7 @@ pub struct CallRecord {
 pub struct InvalidList;
 
 // Checks the whole list: the number of its calls, and the call at an index, counted from 0.
+// A while: the calls differ in length, so no iterator of std gives them.
 fn check(list: &[u8], index: usize) -> Result<(usize, Option<CallRecord>), InvalidList>
     ensures { list_answer result ≡ checked_of list.now index }
 {

@@ -2,6 +2,7 @@
 #![tactic(auto)]
 
 ghost use Rattle.std.specs.Prelude.{◌≡◌, OnErr};
+ghost use Rattle.machine.specs.declared.PairingData.{PairingData};
 ghost use Rattle.protocol.specs.Handlers.{names_encryption_key, send_encryption_key};
 ghost use Rattle.protocol.specs.LegacyCentral.{confirm_value, send_all_keys, send_mconfirm, send_mrand, answer_confirm};
 ghost use Rattle.protocol.specs.LegacyCentral.{begin_confirm, begin_method, handle_pairing_random};
@@ -18,13 +19,14 @@ use handlers::packet::{
 };
 use handlers::payload::read_payload_word;
 use host::ConnectionEvent;
-use machine::{Machine, PairingData, Phase};
+use machine::{Machine, Phase};
 use ops::{Halt, Ops};
 use phases::{confirm_phase_data, enable_encryption, request_oob_data, request_pass_key};
 use types::{KeyDistributionFlags, Reason};
 use util::{PairingMethod, PassKeyEntryAction};
 
 // c1 of a nonce: this end is the initiator.
+// In each role's own file, as in the Rust.
 #[tactic(auto, unfolding(protocol::specs::LegacyCentral::confirm_value))]
 fn confirm_value(machine: &Machine, nonce: Nonce) -> Confirm
     ensures { result ≡ confirm_value machine.now.confirm_data machine.now.pairing_data nonce }
@@ -73,7 +75,7 @@ pub fn send_all_keys(ops: &mut Ops<'_>, machine: &mut Machine) -> Result<(), Hal
 {
     let features = machine.pairing_data.peer_features;
     let named = features.initiator_key_distribution;
-    send_encryption_keys(ops, machine.pairing_data, named)?;
+    send_encryption_keys(ops, named)?;
     send_identity_keys(ops, named)?;
     machine.enters(Phase::Success);
     Ok(())
@@ -81,12 +83,8 @@ pub fn send_all_keys(ops: &mut Ops<'_>, machine: &mut Machine) -> Result<(), Hal
 
 // LTK, EDIV and Rand, where they were agreed; none of them is kept.
 #[tactic(auto, unfolding(protocol::specs::Handlers::send_encryption_key))]
-fn send_encryption_keys(
-    ops: &mut Ops<'_>,
-    pairing_data: PairingData,
-    named: KeyDistributionFlags,
-) -> Result<(), Halt>
-    ensures ran { ran_data ops.new.trace pairing_data result ≡ run ops.old.answers.now (send_encryption_key pairing_data (λ ltk ediv rand. pairing_data) (names_encryption_key named)) ops.old.trace }
+fn send_encryption_keys(ops: &mut Ops<'_>, named: KeyDistributionFlags) -> Result<(), Halt>
+    ensures ran { (d : PairingData) → ran_data ops.new.trace d result ≡ run ops.old.answers.now (send_encryption_key d (λ ltk ediv rand. d) (names_encryption_key named)) ops.old.trace }
     ensures answers { ops.new.answers ≡ ops.old.answers }
 {
     if !named.encryption_key() {
@@ -98,6 +96,7 @@ fn send_encryption_keys(
 }
 
 // The method that was chosen begins.
+// preq and pres apart: the definition of this name and c1 take them so.
 #[tactic(auto, unfolding(protocol::specs::LegacyCentral::begin_method))]
 pub fn begin_method(
     ops: &mut Ops<'_>,
@@ -112,10 +111,14 @@ pub fn begin_method(
 {
     match method {
         PairingMethod::OutOfBand => request_oob_data(ops, machine, preq, pres),
-        PairingMethod::PassKeyEntry { central, .. } => match central {
-            PassKeyEntryAction::Display => display_pass_key(ops, machine, preq, pres),
-            PassKeyEntryAction::Input => request_pass_key(ops, machine, preq, pres),
-        },
+        PairingMethod::PassKeyEntry {
+            central: PassKeyEntryAction::Display,
+            ..
+        } => display_pass_key(ops, machine, preq, pres),
+        PairingMethod::PassKeyEntry {
+            central: PassKeyEntryAction::Input,
+            ..
+        } => request_pass_key(ops, machine, preq, pres),
         PairingMethod::JustWorks => begin_confirm(ops, machine, preq, pres, 0),
         // never chosen in legacy pairing
         PairingMethod::NumericComparison => {
@@ -125,6 +128,7 @@ pub fn begin_method(
 }
 
 // A passkey is drawn and shown, and is the temporary key.
+// preq and pres apart: the definition of this name and c1 take them so.
 fn display_pass_key(
     ops: &mut Ops<'_>,
     machine: &mut Machine,
@@ -141,6 +145,7 @@ fn display_pass_key(
 }
 
 // Mconfirm goes out where the temporary key is known, and Sconfirm is awaited.
+// preq and pres apart: the definition of this name and c1 take them so.
 #[tactic(auto, unfolding(protocol::specs::LegacyCentral::begin_confirm, protocol::specs::LegacyCentral::send_mconfirm))]
 pub fn begin_confirm(
     ops: &mut Ops<'_>,
@@ -155,8 +160,7 @@ pub fn begin_confirm(
 {
     let mut next = *machine;
     next.confirm_data = confirm_phase_data(tk, preq, pres);
-    let nonce = send_mconfirm(ops, &next)?;
-    next.confirm_data.local_nonce = nonce;
+    next.confirm_data.local_nonce = send_mconfirm(ops, &next)?;
     next.enters(Phase::WaitingPairingConfirm);
     *machine = next;
     Ok(())

@@ -2,7 +2,10 @@
 use mathlib.Core.Path.{◌≡◌, ap, ap₂, ◌∙◌}
 use mathlib.Core.List.{List, ◌++◌, append-nil}
 use Prim.Native.Nat.{ℕ, ◌-◌, ◌*◌, ◌%◌, ◌^◌, ◌≤◌, ◌<◌}
+use native.Mathlib.Nat.{one-mul}
 use native.Mathlib.Omega.{arith}
+use lib.Dec.{lit<}
+use lib.Pow.{shl_exact}
 use lib.ListN.{length, take, replicate, length-append, length-replicate}
 use lib.Seq.{take_all}
 use Rattle.octets.specs.Octets.{from_octets, to_octets, octets_of, word_of}
@@ -34,3 +37,7 @@ masked_part n k b =
     ap (λ (m : List ℕ). key (from_octets (take 16 m))) t
     ∙ ap (λ (m : List ℕ). key (from_octets m)) (take_all 16 l (omega arith))
     ∙ ap key (from_zeros (to_octets n k.0) (16 - n) ∙ from_mod n k.0)
+
+-- the bound of a number of n octets, as the code shifts it
+pub shifted : (n : ℕ) → n ≤ 15 → (1 * 2 ^ (8 * n)) % 2 ^ 128 ≡ 2 ^ (8 * n)
+shifted n h = shl_exact {a = 1} 1 (8 * n) 128 (lit< tt) (omega arith) ∙ one-mul (2 ^ (8 * n))

@@ -6,6 +6,7 @@ ghost use Rattle.crypto.specs.Crypto.{e_of, p1_of, p2_of, c1_of, s1_of, masked_o
 use octets::{Number, word_from_octets_be, word_to_octets, word_to_octets_be};
 
 // A Long Term Key, or a Short Term Key in its place.
+// A type apart from IdentityResolvingKey with the same methods, as in the Rust: one key is not to be passed for the other.
 #[derive(Clone, Copy, PartialEq, Eq)]
 pub struct LongTermKey(pub u128);
 
@@ -25,6 +26,7 @@ impl LongTermKey {
     }
 
     // The key cut to a size in octets: its low octets, and zeros above them.
+    #[tactic(auto, using(crate::proofs::Cutting::shifted, crate::proofs::Cutting::masked_whole, crate::proofs::Cutting::masked_part))]
     pub fn masked(self, key_size: u8) -> LongTermKey
         ensures { result ≡ masked_of key_size self }
     {
@@ -61,6 +63,7 @@ pub struct Nonce(pub u128);
 
 impl Nonce {
     // From 16 octets of the generator, most significant first; 0 becomes 1.
+    #[tactic(auto, unfolding(crate::specs::Crypto::drawn_nonce, crate::specs::Crypto::non_zero))]
     pub fn new(drawn: [u8; 16]) -> Nonce
         ensures { result ≡ drawn_nonce drawn }
     {
@@ -73,6 +76,7 @@ impl Nonce {
 pub struct Confirm(pub u128);
 
 // The security function e: AES-128 of 128-bit numbers.
+#[tactic(auto, unfolding(crate::specs::Crypto::e_of))]
 pub fn e(key: u128, plaintext_data: u128) -> u128
     ensures { result ≡ e_of key plaintext_data }
 {
@@ -101,6 +105,8 @@ fn p2(ia: [u8; 6], ra: [u8; 6]) -> u128
 
 // The confirm value. preq and pres have their codes in front; ia and iat are the initiator's, in both roles.
 // Octet strings as on the air.
+// preq and pres apart, as Part H has them.
+#[tactic(auto, unfolding(crate::specs::Crypto::c1_of))]
 pub fn c1(
     k: u128,
     r: Nonce,
@@ -114,11 +120,11 @@ pub fn c1(
     ensures { result ≡ c1_of k r preq pres iat ia rat ra }
 {
     let first = e(k, r.0 ^ p1(pres, preq, rat, iat));
-    let second = e(k, first ^ p2(ia, ra));
-    Confirm(second)
+    Confirm(e(k, first ^ p2(ia, ra)))
 }
 
 // The short-term key. r1 is Srand and r2 is Mrand, in both roles.
+#[tactic(auto, using(crate::proofs::Reading::s1_reading, crate::proofs::Reading::low_halves))]
 pub fn s1(k: u128, r1: Nonce, r2: Nonce) -> LongTermKey
     ensures { result ≡ s1_of k r1 r2 }
 {

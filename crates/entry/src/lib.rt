@@ -10,6 +10,7 @@ pub use pairing::Outcome;
 use pairing::{Stepped, step};
 
 // What a step came to, beside the machine: how it came out, and the octets of answers read and of the list written.
+// Not Stepped, which has the machine: here it stands behind the reference, so that it is in one place.
 #[derive(Clone, Copy)]
 pub struct StepResult {
     pub outcome: Outcome,
@@ -18,6 +19,7 @@ pub struct StepResult {
 }
 
 // One step of the machine behind the reference. A step that is refused or wants leaves it as it was.
+// Payload and answers are lent apart, as document 01's entry has them: each has a length of its own.
 pub fn step_in_place(
     machine: &mut Machine,
     role: Role,
@@ -28,8 +30,7 @@ pub fn step_in_place(
 ) -> StepResult
     ensures { (stepped result machine.new list.new ≡ step role machine.old input payload.now answers.now list.old) × Keeps result.outcome machine.old machine.new }
 {
-    let given = *machine;
-    let stepped = step(role, given, input, payload, answers, list);
+    let stepped = step(role, *machine, input, payload, answers, list);
     *machine = stepped.machine;
     StepResult {
         outcome: stepped.outcome,
@@ -39,6 +40,7 @@ pub fn step_in_place(
 }
 
 // The same for a caller that holds its machine by value: a local machine is lent to the entry and handed back.
+// Payload and answers as above.
 pub fn step_local(
     machine: Machine,
     role: Role,

@@ -55,7 +55,7 @@ pub fn negotiated_key_size(pairing_data: PairingData) -> u8
 {
     let peer = pairing_data.peer_features.maximum_encryption_key_size;
     let local = pairing_data.local_features.maximum_encryption_key_size;
-    if peer < local { peer } else { local }
+    peer.min(local)
 }
 
 // The responder's keys in the bond, where there is one; the LTK is cut to the negotiated size.

@@ -1,4 +1,4 @@
-// pairing/util.rs: the packets, as calls.
+// pairing/util.rs: the packets, as calls. One function for each of the Rust's make_.. functions.
 ghost use Rattle.std.specs.Prelude.{◌≡◌};
 ghost use Rattle.host.specs.declared.call.Packet.TheVariants as packet;
 

@@ -4,8 +4,8 @@ ghost use Rattle.types.specs.declared.types.Reason.TheVariants as reason;
 ghost use Rattle.bond.specs.declared.Error.TheVariants.{Security, InvalidValue};
 ghost use Rattle.protocol.specs.Handlers.{word_in, features_in, identification_in, address_in, reason_in, command_octets};
 
-use bond::{Address, Error, read_address};
-use octets::{read, read_word};
+use bond::{Address, Error};
+use octets::{Number, octets_at, read};
 use types::{Command, PairingFeatures, Reason};
 
 // Exactly 16 octets.
@@ -13,10 +13,8 @@ use types::{Command, PairingFeatures, Reason};
 pub fn read_payload_word(payload: &[u8]) -> Option<u128>
     ensures { result ≡ word_in payload.now }
 {
-    if payload.len() != 16 {
-        return None;
-    }
-    Some(read_word(payload, 0))
+    let octets = <[u8; 16]>::try_from(payload).ok()?;
+    Some(u128::from_octets(octets))
 }
 
 // Six octets and no more.
@@ -59,10 +57,11 @@ pub fn read_identity_address(payload: &[u8]) -> Result<Address, Error>
     if payload.len() < 7 || 1 < payload[0] {
         return Err(Error::InvalidValue);
     }
-    Ok(read_address(payload, 0))
+    Ok(Address::from(octets_at(payload, 0)))
 }
 
 // The reason in PairingFailed.
+// Of a payload, so no From of one octet: an empty one has a reason, too.
 #[tactic(auto, unfolding(protocol::specs::Handlers::reason_in))]
 pub fn read_reason(payload: &[u8]) -> Reason
     ensures { result ≡ reason_in payload.now }

@@ -1,11 +1,14 @@
 // Host calls: one octet of kind, then a body whose length the kind fixes.
+// Each is laid into a list at a place. Calls differ in length: by value each would be an array of the longest with a
+// length beside it, since there is no heap.
+// Each `write` gives a bool: `Written` says by it whether the octets fit.
 ghost use Rattle.std.specs.Prelude.{◌≡◌, [], ◌∷◌, ◌++◌, length};
 ghost use Rattle.octets.specs.Octets.{to_octets, octets_of, Written};
 ghost use Rattle.bond.specs.Bond.{address_type, bd_addr_octets, option_bond_octets};
 ghost use Rattle.host.specs.Calls.{packet_command, kind_of, event_kind, question_kind, draw_kind, body_length, packet_body, event_body};
 ghost use Rattle.host.specs.Calls.{body_of, call_octets, listed, no_trace, push_of};
 
-use bond::{Address, BondInformation, Error, encode_bond};
+use bond::{Address, BondInformation, Error, encode_option_bond};
 use crypto::{Confirm, IdentityResolvingKey, LongTermKey, Nonce};
 use octets::{word_to_octets, write};
 use types::{Command, PairingFeatures, PassKey};
@@ -27,6 +30,7 @@ pub enum Packet {
 pub enum ConnectionEvent {
     PairingFailed(Error),
     PairingComplete {
+        // a number: the host may give any octet
         security_level: u8,
         bond: Option<BondInformation>,
     },
@@ -164,8 +168,8 @@ fn complete(security_level: u8, bond: Option<BondInformation>) -> [u8; 53]
     ensures { result ≡ security_level ∷ option_bond_octets bond }
 {
     let mut octets = [0; 53];
-    write(&mut octets, 0, &[security_level, u8::from(bond.is_some())]);
-    write(&mut octets, 2, &encode_bond(bond));
+    write(&mut octets, 0, &[security_level]);
+    write(&mut octets, 1, &encode_option_bond(bond));
     octets
 }
 
@@ -181,6 +185,7 @@ fn encryption(ltk: LongTermKey, security_level: u8, encryption_key_len: u8) -> [
 }
 
 impl Question {
+    // `kind` and no From, here and for a draw: events and calls have it under this name.
     pub fn kind(self) -> u8
         ensures { result ≡ question_kind self }
     {
@@ -216,10 +221,7 @@ impl Call {
     pub fn size(self) -> usize
         ensures { result ≡ length (call_octets self) }
     {
-        match body_length(self.kind()) {
-            Some(n) => 1 + n,
-            None => 0,
-        }
+        body_length(self.kind()).map_or(0, |n| 1 + n)
     }
 
     // Lays the body over list from place at on, as `octets::write` does.
@@ -243,6 +245,7 @@ impl Call {
     }
 
     // Lays the call over list from place at on, as `octets::write` does.
+    #[tactic(auto, unfolding(crate::specs::Calls::call_octets), using(octets::proofs::Parts::fits, octets::proofs::Parts::fits_not, octets::proofs::Parts::not_written, octets::proofs::Parts::length_written, octets::proofs::Parts::write_then))]
     pub fn write(self, list: &mut [u8], at: usize) -> bool
         ensures { Written list.old at (call_octets self) result list.new }
     {
@@ -255,6 +258,7 @@ impl Call {
 }
 
 // The length of the body that a kind fixes, or that there is no such kind of call.
+// By number: each kind is a variant of `Call` or below it already, and a list of calls has any octet in this place.
 pub fn body_length(kind: u8) -> Option<usize>
     ensures { result ≡ body_length kind }
 {
@@ -277,6 +281,7 @@ pub fn body_length(kind: u8) -> Option<usize>
 pub const LONGEST: usize = 164;
 
 // What a step has done so far: the octets of the calls that it has listed, and how many octets of answers it has read.
+// No ArrayVec: it does not say what stands behind its items, and a trace is compared whole.
 #[derive(Clone, Copy, PartialEq, Eq)]
 pub struct Trace {
     pub octets: [u8; LONGEST],
@@ -284,18 +289,20 @@ pub struct Trace {
     pub read: usize,
 }
 
-impl Trace {
+impl Default for Trace {
+    ghost is_default = { λ trace. trace ≡ no_trace };
+
     #[tactic(auto, unfolding(crate::specs::Calls::no_trace))]
-    pub fn none() -> Trace
-        ensures { result ≡ no_trace }
-    {
-        Trace {
+    fn default() -> Self {
+        Self {
             octets: [0; LONGEST],
             len: 0,
             read: 0,
         }
     }
+}
 
+impl Trace {
     // One more call; where it has no room, the trace stays as it is.
     #[tactic(auto, using(octets::proofs::Parts::fitting), unfolding(crate::specs::Calls::push_of, octets::specs::Octets::write_at))]
     pub fn push(&mut self, call: Call)

@@ -18,21 +18,16 @@ use central_helpers::{
     answer_confirm, begin_confirm, begin_method, handle_pairing_random, send_all_keys,
     send_mconfirm,
 };
-use crypto::{Confirm, LongTermKey};
-use handlers::input::{
-    is_command, is_pass_key_cancel, link_encrypted, oob_data_received, other_input, pass_key_input,
-};
+use crypto::{Confirm, LongTermKey, Nonce};
+use handlers::input::{Received, other_input};
 use handlers::keys::{EncryptionKeys, with_identity_address, with_keys};
 use handlers::payload::{
     command_octets, read_features, read_identification, read_identity_address, read_payload_word,
 };
-use machine::{Input, Machine, Phase};
+use machine::{ConfirmPhaseData, Machine, Phase};
 use octets::octets_at;
 use ops::{Halt, Ops};
-use phases::{
-    confirm_phase_data, handle_encryption_information, settle, store_confirm_bytes,
-    waiting_identity,
-};
+use phases::{handle_encryption_information, settle, store_confirm_bytes, waiting_identity};
 use types::{Command, Reason};
 use util::choose_legacy_pairing_method;
 
@@ -43,50 +38,42 @@ use util::choose_legacy_pairing_method;
 pub fn handle_input(
     ops: &mut Ops<'_>,
     machine: &mut Machine,
-    input: Input,
-    payload: &[u8],
+    received: Received<'_>,
 ) -> Result<(), Stop>
-    ensures ran { ran_entered ops.new.trace machine.new result ≡ run ops.old.answers.now (handle_input machine.old input payload.now) ops.old.trace }
+    ensures ran { ran_entered ops.new.trace machine.new result ≡ run ops.old.answers.now (handle_input machine.old received.entry.input received.entry.payload.now) ops.old.trace }
     ensures answers { ops.new.answers ≡ ops.old.answers }
     ensures kept { OnErr result (machine.new ≡ machine.old) }
 {
     let before = *machine;
-    let turned = transition(ops, machine, input, payload);
+    let turned = transition(ops, machine, received);
     settle(ops, machine, before, turned)
 }
 
 // A row for each state.
 #[tactic(auto, unfolding(protocol::specs::LegacyCentral::transition))]
-fn transition(
-    ops: &mut Ops<'_>,
-    machine: &mut Machine,
-    input: Input,
-    payload: &[u8],
-) -> Result<(), Halt>
-    ensures ran { ran_machine ops.new.trace machine.new result ≡ run ops.old.answers.now (transition machine.old input payload.now) ops.old.trace }
+fn transition(ops: &mut Ops<'_>, machine: &mut Machine, received: Received<'_>) -> Result<(), Halt>
+    ensures ran { ran_machine ops.new.trace machine.new result ≡ run ops.old.answers.now (transition machine.old received.entry.input received.entry.payload.now) ops.old.trace }
     ensures answers { ops.new.answers ≡ ops.old.answers }
 {
     match machine.phase {
-        Phase::WaitingPairingResponse => waiting_response(ops, machine, input, payload),
+        Phase::WaitingPairingResponse => waiting_response(ops, machine, received),
         Phase::WaitingPassKeyInput { confirm_bytes } => {
-            waiting_pass_key(ops, machine, confirm_bytes, input, payload)
+            waiting_pass_key(ops, machine, confirm_bytes, received)
         }
-        Phase::WaitingOobData => waiting_oob_data(ops, machine, input, payload),
-        Phase::WaitingPairingConfirm => waiting_confirm(ops, machine, input, payload),
+        Phase::WaitingOobData => waiting_oob_data(ops, machine, received),
+        Phase::WaitingPairingConfirm => waiting_confirm(ops, machine, received),
         Phase::WaitingPairingRandom { peer_confirm } => {
-            waiting_random(ops, machine, peer_confirm, input, payload)
+            waiting_random(ops, machine, peer_confirm, received)
         }
-        Phase::WaitingLinkEncrypted => waiting_encrypted(ops, machine, input, payload),
-        Phase::WaitingIdentitityInformation => Ok(waiting_identity(machine, input, payload)?),
-        Phase::WaitingIdentitityAddressInformation => {
-            waiting_address(ops, machine, input, payload)
-        }
+        Phase::WaitingLinkEncrypted => waiting_encrypted(ops, machine, received),
+        Phase::WaitingIdentitityInformation => Ok(waiting_identity(machine, received)?),
+        Phase::WaitingIdentitityAddressInformation => { waiting_address(ops, machine, received) }
         Phase::ReceivingKeys {
             phase,
             received_ltk,
-        } => receiving_keys(ops, machine, phase, received_ltk, input, payload),
+        } => receiving_keys(ops, machine, phase, received_ltk, received),
         Phase::Success | Phase::Error(_) | Phase::WaitingPairingRequest => {
-            Ok(other_input(machine, input, payload)?)
+            Ok(other_input(machine, received)?)
         }
     }
 }
@@ -94,140 +81,133 @@ fn transition(
 fn waiting_response(
     ops: &mut Ops<'_>,
     machine: &mut Machine,
-    input: Input,
-    payload: &[u8],
+    received: Received<'_>,
 ) -> Result<(), Halt>
-    ensures ran { ran_machine ops.new.trace machine.new result ≡ run ops.old.answers.now (transition_from machine.old payload.now input phase.WaitingPairingResponse) ops.old.trace }
+    ensures ran { ran_machine ops.new.trace machine.new result ≡ run ops.old.answers.now (transition_from machine.old received.entry.payload.now received.entry.input phase.WaitingPairingResponse) ops.old.trace }
     ensures answers { ops.new.answers ≡ ops.old.answers }
 {
-    if is_command(input, Command::PairingResponse) {
-        return handle_pairing_response(ops, machine, payload);
+    if received.is_command(Command::PairingResponse) {
+        return handle_pairing_response(ops, machine, received.payload);
     }
-    Ok(other_input(machine, input, payload)?)
+    Ok(other_input(machine, received)?)
 }
 
 fn waiting_pass_key(
     ops: &mut Ops<'_>,
     machine: &mut Machine,
     confirm_bytes: Option<Confirm>,
-    input: Input,
-    payload: &[u8],
+    received: Received<'_>,
 ) -> Result<(), Halt>
-    ensures ran { ran_machine ops.new.trace machine.new result ≡ run ops.old.answers.now (transition_from machine.old payload.now input (phase.WaitingPassKeyInput confirm_bytes)) ops.old.trace }
+    ensures ran { ran_machine ops.new.trace machine.new result ≡ run ops.old.answers.now (transition_from machine.old received.entry.payload.now received.entry.input (phase.WaitingPassKeyInput confirm_bytes)) ops.old.trace }
     ensures answers { ops.new.answers ≡ ops.old.answers }
 {
-    if is_command(input, Command::PairingConfirm) {
-        return Ok(store_confirm_bytes(machine, payload)?);
+    if received.is_command(Command::PairingConfirm) {
+        return Ok(store_confirm_bytes(machine, received.payload)?);
     }
-    if let Some(typed) = pass_key_input(input) {
+    if let Some(typed) = received.pass_key_input() {
         return handle_pass_key_input(ops, machine, typed, confirm_bytes);
     }
-    if is_pass_key_cancel(input) {
+    if received.is_pass_key_cancel() {
         return Err(Halt::Failed(Error::Security(Reason::PasskeyEntryFailed)));
     }
-    Ok(other_input(machine, input, payload)?)
+    Ok(other_input(machine, received)?)
 }
 
 // OOB data is the temporary key.
 fn waiting_oob_data(
     ops: &mut Ops<'_>,
     machine: &mut Machine,
-    input: Input,
-    payload: &[u8],
+    received: Received<'_>,
 ) -> Result<(), Halt>
-    ensures ran { ran_machine ops.new.trace machine.new result ≡ run ops.old.answers.now (transition_from machine.old payload.now input phase.WaitingOobData) ops.old.trace }
+    ensures ran { ran_machine ops.new.trace machine.new result ≡ run ops.old.answers.now (transition_from machine.old received.entry.payload.now received.entry.input phase.WaitingOobData) ops.old.trace }
     ensures answers { ops.new.answers ≡ ops.old.answers }
 {
-    if let Some(random) = oob_data_received(input) {
+    if let Some(random) = received.oob_data_received() {
         let preq = machine.confirm_data.preq;
         let pres = machine.confirm_data.pres;
         return begin_confirm(ops, machine, preq, pres, random);
     }
-    Ok(other_input(machine, input, payload)?)
+    Ok(other_input(machine, received)?)
 }
 
 fn waiting_confirm(
     ops: &mut Ops<'_>,
     machine: &mut Machine,
-    input: Input,
-    payload: &[u8],
+    received: Received<'_>,
 ) -> Result<(), Halt>
-    ensures ran { ran_machine ops.new.trace machine.new result ≡ run ops.old.answers.now (transition_from machine.old payload.now input phase.WaitingPairingConfirm) ops.old.trace }
+    ensures ran { ran_machine ops.new.trace machine.new result ≡ run ops.old.answers.now (transition_from machine.old received.entry.payload.now received.entry.input phase.WaitingPairingConfirm) ops.old.trace }
     ensures answers { ops.new.answers ≡ ops.old.answers }
 {
-    if is_command(input, Command::PairingConfirm) {
-        return handle_peer_confirm(ops, machine, payload);
+    if received.is_command(Command::PairingConfirm) {
+        return handle_peer_confirm(ops, machine, received.payload);
     }
-    Ok(other_input(machine, input, payload)?)
+    Ok(other_input(machine, received)?)
 }
 
 fn waiting_random(
     ops: &mut Ops<'_>,
     machine: &mut Machine,
     peer_confirm: Confirm,
-    input: Input,
-    payload: &[u8],
+    received: Received<'_>,
 ) -> Result<(), Halt>
-    ensures ran { ran_machine ops.new.trace machine.new result ≡ run ops.old.answers.now (transition_from machine.old payload.now input (phase.WaitingPairingRandom peer_confirm)) ops.old.trace }
+    ensures ran { ran_machine ops.new.trace machine.new result ≡ run ops.old.answers.now (transition_from machine.old received.entry.payload.now received.entry.input (phase.WaitingPairingRandom peer_confirm)) ops.old.trace }
     ensures answers { ops.new.answers ≡ ops.old.answers }
 {
-    if is_command(input, Command::PairingRandom) {
-        return handle_pairing_random(ops, machine, peer_confirm, payload);
+    if received.is_command(Command::PairingRandom) {
+        return handle_pairing_random(ops, machine, peer_confirm, received.payload);
     }
-    Ok(other_input(machine, input, payload)?)
+    Ok(other_input(machine, received)?)
 }
 
 // The host's report on encryption.
 fn waiting_encrypted(
     ops: &mut Ops<'_>,
     machine: &mut Machine,
-    input: Input,
-    payload: &[u8],
+    received: Received<'_>,
 ) -> Result<(), Halt>
-    ensures ran { ran_machine ops.new.trace machine.new result ≡ run ops.old.answers.now (transition_from machine.old payload.now input phase.WaitingLinkEncrypted) ops.old.trace }
+    ensures ran { ran_machine ops.new.trace machine.new result ≡ run ops.old.answers.now (transition_from machine.old received.entry.payload.now received.entry.input phase.WaitingLinkEncrypted) ops.old.trace }
     ensures answers { ops.new.answers ≡ ops.old.answers }
 {
-    match link_encrypted(input) {
+    match received.link_encrypted() {
         Some(true) => handle_link_encrypted_success(ops, machine),
         Some(false) => Err(Halt::Failed(Error::Security(Reason::ConfirmValueFailed))),
-        None => Ok(other_input(machine, input, payload)?),
+        None => Ok(other_input(machine, received)?),
     }
 }
 
 fn waiting_address(
     ops: &mut Ops<'_>,
     machine: &mut Machine,
-    input: Input,
-    payload: &[u8],
+    received: Received<'_>,
 ) -> Result<(), Halt>
-    ensures ran { ran_machine ops.new.trace machine.new result ≡ run ops.old.answers.now (transition_from machine.old payload.now input phase.WaitingIdentitityAddressInformation) ops.old.trace }
+    ensures ran { ran_machine ops.new.trace machine.new result ≡ run ops.old.answers.now (transition_from machine.old received.entry.payload.now received.entry.input phase.WaitingIdentitityAddressInformation) ops.old.trace }
     ensures answers { ops.new.answers ≡ ops.old.answers }
 {
-    if is_command(input, Command::IdentityAddressInformation) {
-        return handle_identity_address_information(ops, machine, payload);
+    if received.is_command(Command::IdentityAddressInformation) {
+        return handle_identity_address_information(ops, machine, received.payload);
     }
-    Ok(other_input(machine, input, payload)?)
+    Ok(other_input(machine, received)?)
 }
 
 // The phase says which of the two packets comes next.
+// The phase is a number, as in the Rust: a record may hold any octet, and any other awaits nothing.
 fn receiving_keys(
     ops: &mut Ops<'_>,
     machine: &mut Machine,
     phase: u8,
     received_ltk: LongTermKey,
-    input: Input,
-    payload: &[u8],
+    received: Received<'_>,
 ) -> Result<(), Halt>
-    ensures ran { ran_machine ops.new.trace machine.new result ≡ run ops.old.answers.now (on_receiving_keys phase input (handle_encryption_information machine.old.pairing_data payload.now) (handle_central_identification machine.old.pairing_data received_ltk payload.now) (other_input machine.old payload.now input)) ops.old.trace }
+    ensures ran { ran_machine ops.new.trace machine.new result ≡ run ops.old.answers.now (on_receiving_keys phase received.entry.input (handle_encryption_information machine.old.pairing_data received.entry.payload.now) (handle_central_identification machine.old.pairing_data received_ltk received.entry.payload.now) (other_input machine.old received.entry.payload.now received.entry.input)) ops.old.trace }
     ensures answers { ops.new.answers ≡ ops.old.answers }
 {
-    if phase == 0 && is_command(input, Command::EncryptionInformation) {
-        return Ok(handle_encryption_information(machine, payload)?);
+    if phase == 0 && received.is_command(Command::EncryptionInformation) {
+        return Ok(handle_encryption_information(machine, received.payload)?);
     }
-    if phase == 1 && is_command(input, Command::CentralIdentification) {
-        return handle_central_identification(ops, machine, received_ltk, payload);
+    if phase == 1 && received.is_command(Command::CentralIdentification) {
+        return handle_central_identification(ops, machine, received_ltk, received.payload);
     }
-    Ok(other_input(machine, input, payload)?)
+    Ok(other_input(machine, received)?)
 }
 
 // --- Transition helpers ---
@@ -287,11 +267,12 @@ fn handle_pass_key_input(
     ensures ran { ran_machine ops.new.trace machine.new result ≡ run ops.old.answers.now (handle_pass_key_input machine.old.confirm_data machine.old.pairing_data input confirm_bytes) ops.old.trace }
     ensures answers { ops.new.answers ≡ ops.old.answers }
 {
-    let preq = machine.confirm_data.preq;
-    let pres = machine.confirm_data.pres;
-    machine.confirm_data = confirm_phase_data(u128::from(input), preq, pres);
-    let nonce = send_mconfirm(ops, machine)?;
-    machine.confirm_data.local_nonce = nonce;
+    machine.confirm_data = ConfirmPhaseData {
+        tk: u128::from(input),
+        local_nonce: Nonce(0),
+        ..machine.confirm_data
+    };
+    machine.confirm_data.local_nonce = send_mconfirm(ops, machine)?;
     match confirm_bytes {
         Some(peer_confirm) => answer_confirm(ops, machine, peer_confirm),
         None => {

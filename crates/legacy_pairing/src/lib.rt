@@ -1,6 +1,7 @@
 // The functions of the static library: C names for octet_steps and octet_values. include/legacy_pairing.h declares them
 // for C, bindings/rust is a safe crate over them. Octet strings run least significant octet first, as on the air.
-// Numbers for results, and references for what else is given back, are what C can take.
+// Numbers for roles, inputs and results, a slice for each string of octets, and references for what else is given back,
+// are what C can take.
 #![tactic(auto)]
 
 ghost use Rattle.std.specs.Prelude.{◌≡◌};

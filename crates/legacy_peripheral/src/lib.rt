@@ -15,21 +15,16 @@ ghost use Rattle.handlers.specs.Outcomes.{tried, ran_machine, ran_entered};
 
 use answer::Stop;
 use bond::Error;
-use crypto::{Confirm, LongTermKey};
-use handlers::input::{
-    is_command, is_pass_key_cancel, link_encrypted, oob_data_received, other_input, pass_key_input,
-};
+use crypto::{Confirm, LongTermKey, Nonce};
+use handlers::input::{Received, other_input};
 use handlers::keys::{send_identity_keys, with_identity_address};
 use handlers::payload::{read_identification, read_identity_address, read_payload_word};
-use machine::{Input, Machine, Phase};
+use machine::{ConfirmPhaseData, Machine, Phase};
 use ops::{Halt, Ops};
 use peripheral_helpers::{
     handle_pairing_random, handle_pairing_request, send_encryption_keys, send_sconfirm,
 };
-use phases::{
-    confirm_phase_data, handle_encryption_information, settle, store_confirm_bytes,
-    waiting_identity,
-};
+use phases::{handle_encryption_information, settle, store_confirm_bytes, waiting_identity};
 use types::{Command, Reason};
 
 // --- FSM core ---
@@ -39,47 +34,39 @@ use types::{Command, Reason};
 pub fn handle_input(
     ops: &mut Ops<'_>,
     machine: &mut Machine,
-    input: Input,
-    payload: &[u8],
+    received: Received<'_>,
 ) -> Result<(), Stop>
-    ensures ran { ran_entered ops.new.trace machine.new result ≡ run ops.old.answers.now (handle_input machine.old input payload.now) ops.old.trace }
+    ensures ran { ran_entered ops.new.trace machine.new result ≡ run ops.old.answers.now (handle_input machine.old received.entry.input received.entry.payload.now) ops.old.trace }
     ensures answers { ops.new.answers ≡ ops.old.answers }
     ensures kept { OnErr result (machine.new ≡ machine.old) }
 {
     let before = *machine;
-    let turned = transition(ops, machine, input, payload);
+    let turned = transition(ops, machine, received);
     settle(ops, machine, before, turned)
 }
 
 // A row for each state.
 #[tactic(auto, unfolding(protocol::specs::LegacyPeripheral::transition))]
-fn transition(
-    ops: &mut Ops<'_>,
-    machine: &mut Machine,
-    input: Input,
-    payload: &[u8],
-) -> Result<(), Halt>
-    ensures ran { ran_machine ops.new.trace machine.new result ≡ run ops.old.answers.now (transition machine.old input payload.now) ops.old.trace }
+fn transition(ops: &mut Ops<'_>, machine: &mut Machine, received: Received<'_>) -> Result<(), Halt>
+    ensures ran { ran_machine ops.new.trace machine.new result ≡ run ops.old.answers.now (transition machine.old received.entry.input received.entry.payload.now) ops.old.trace }
     ensures answers { ops.new.answers ≡ ops.old.answers }
 {
     match machine.phase {
-        Phase::WaitingPairingRequest => waiting_request(ops, machine, input, payload),
+        Phase::WaitingPairingRequest => waiting_request(ops, machine, received),
         Phase::WaitingPassKeyInput { confirm_bytes } => {
-            waiting_pass_key(ops, machine, confirm_bytes, input, payload)
+            waiting_pass_key(ops, machine, confirm_bytes, received)
         }
-        Phase::WaitingOobData => Ok(waiting_oob_data(machine, input, payload)?),
-        Phase::WaitingPairingConfirm => waiting_confirm(ops, machine, input, payload),
+        Phase::WaitingOobData => Ok(waiting_oob_data(machine, received)?),
+        Phase::WaitingPairingConfirm => waiting_confirm(ops, machine, received),
         Phase::WaitingPairingRandom { peer_confirm } => {
-            waiting_random(ops, machine, peer_confirm, input, payload)
+            waiting_random(ops, machine, peer_confirm, received)
         }
-        Phase::WaitingLinkEncrypted => waiting_encrypted(ops, machine, input, payload),
-        Phase::WaitingIdentitityInformation => Ok(waiting_identity(machine, input, payload)?),
-        Phase::WaitingIdentitityAddressInformation => {
-            Ok(waiting_address(machine, input, payload)?)
-        }
-        Phase::ReceivingKeys { phase, .. } => Ok(receiving_keys(machine, phase, input, payload)?),
+        Phase::WaitingLinkEncrypted => waiting_encrypted(ops, machine, received),
+        Phase::WaitingIdentitityInformation => Ok(waiting_identity(machine, received)?),
+        Phase::WaitingIdentitityAddressInformation => { Ok(waiting_address(machine, received)?) }
+        Phase::ReceivingKeys { phase, .. } => Ok(receiving_keys(machine, phase, received)?),
         Phase::Success | Phase::Error(_) | Phase::WaitingPairingResponse => {
-            Ok(other_input(machine, input, payload)?)
+            Ok(other_input(machine, received)?)
         }
     }
 }
@@ -87,53 +74,53 @@ fn transition(
 fn waiting_request(
     ops: &mut Ops<'_>,
     machine: &mut Machine,
-    input: Input,
-    payload: &[u8],
+    received: Received<'_>,
 ) -> Result<(), Halt>
-    ensures ran { ran_machine ops.new.trace machine.new result ≡ run ops.old.answers.now (transition_from machine.old payload.now input phase.WaitingPairingRequest) ops.old.trace }
+    ensures ran { ran_machine ops.new.trace machine.new result ≡ run ops.old.answers.now (transition_from machine.old received.entry.payload.now received.entry.input phase.WaitingPairingRequest) ops.old.trace }
     ensures answers { ops.new.answers ≡ ops.old.answers }
 {
-    if is_command(input, Command::PairingRequest) {
-        return handle_pairing_request(ops, machine, payload);
+    if received.is_command(Command::PairingRequest) {
+        return handle_pairing_request(ops, machine, received.payload);
     }
-    if let Some(encrypted) = link_encrypted(input) {
+    if let Some(encrypted) = received.link_encrypted() {
         return handle_link_encrypted(ops, machine, true, encrypted);
     }
-    Ok(other_input(machine, input, payload)?)
+    Ok(other_input(machine, received)?)
 }
 
 fn waiting_pass_key(
     ops: &mut Ops<'_>,
     machine: &mut Machine,
     confirm_bytes: Option<Confirm>,
-    input: Input,
-    payload: &[u8],
+    received: Received<'_>,
 ) -> Result<(), Halt>
-    ensures ran { ran_machine ops.new.trace machine.new result ≡ run ops.old.answers.now (transition_from machine.old payload.now input (phase.WaitingPassKeyInput confirm_bytes)) ops.old.trace }
+    ensures ran { ran_machine ops.new.trace machine.new result ≡ run ops.old.answers.now (transition_from machine.old received.entry.payload.now received.entry.input (phase.WaitingPassKeyInput confirm_bytes)) ops.old.trace }
     ensures answers { ops.new.answers ≡ ops.old.answers }
 {
-    if is_command(input, Command::PairingConfirm) {
-        return Ok(store_confirm_bytes(machine, payload)?);
+    if received.is_command(Command::PairingConfirm) {
+        return Ok(store_confirm_bytes(machine, received.payload)?);
     }
-    if let Some(typed) = pass_key_input(input) {
+    if let Some(typed) = received.pass_key_input() {
         return handle_pass_key_input(ops, machine, typed, confirm_bytes);
     }
-    if is_pass_key_cancel(input) {
+    if received.is_pass_key_cancel() {
         return Err(Halt::Failed(Error::Security(Reason::PasskeyEntryFailed)));
     }
-    Ok(other_input(machine, input, payload)?)
+    Ok(other_input(machine, received)?)
 }
 
 // OOB data is the temporary key.
-fn waiting_oob_data(machine: &mut Machine, input: Input, payload: &[u8]) -> Result<(), Error>
-    ensures { ret (tried machine.new result) ≡ transition_from machine.old payload.now input phase.WaitingOobData }
+fn waiting_oob_data(machine: &mut Machine, received: Received<'_>) -> Result<(), Error>
+    ensures { ret (tried machine.new result) ≡ transition_from machine.old received.entry.payload.now received.entry.input phase.WaitingOobData }
 {
-    let Some(random) = oob_data_received(input) else {
-        return other_input(machine, input, payload);
+    let Some(random) = received.oob_data_received() else {
+        return other_input(machine, received);
     };
-    let preq = machine.confirm_data.preq;
-    let pres = machine.confirm_data.pres;
-    machine.confirm_data = confirm_phase_data(random, preq, pres);
+    machine.confirm_data = ConfirmPhaseData {
+        tk: random,
+        local_nonce: Nonce(0),
+        ..machine.confirm_data
+    };
     machine.enters(Phase::WaitingPairingConfirm);
     Ok(())
 }
@@ -141,74 +128,67 @@ fn waiting_oob_data(machine: &mut Machine, input: Input, payload: &[u8]) -> Resu
 fn waiting_confirm(
     ops: &mut Ops<'_>,
     machine: &mut Machine,
-    input: Input,
-    payload: &[u8],
+    received: Received<'_>,
 ) -> Result<(), Halt>
-    ensures ran { ran_machine ops.new.trace machine.new result ≡ run ops.old.answers.now (transition_from machine.old payload.now input phase.WaitingPairingConfirm) ops.old.trace }
+    ensures ran { ran_machine ops.new.trace machine.new result ≡ run ops.old.answers.now (transition_from machine.old received.entry.payload.now received.entry.input phase.WaitingPairingConfirm) ops.old.trace }
     ensures answers { ops.new.answers ≡ ops.old.answers }
 {
-    if is_command(input, Command::PairingConfirm) {
-        return handle_peer_confirm(ops, machine, payload);
+    if received.is_command(Command::PairingConfirm) {
+        return handle_peer_confirm(ops, machine, received.payload);
     }
-    Ok(other_input(machine, input, payload)?)
+    Ok(other_input(machine, received)?)
 }
 
 fn waiting_random(
     ops: &mut Ops<'_>,
     machine: &mut Machine,
     peer_confirm: Confirm,
-    input: Input,
-    payload: &[u8],
+    received: Received<'_>,
 ) -> Result<(), Halt>
-    ensures ran { ran_machine ops.new.trace machine.new result ≡ run ops.old.answers.now (transition_from machine.old payload.now input (phase.WaitingPairingRandom peer_confirm)) ops.old.trace }
+    ensures ran { ran_machine ops.new.trace machine.new result ≡ run ops.old.answers.now (transition_from machine.old received.entry.payload.now received.entry.input (phase.WaitingPairingRandom peer_confirm)) ops.old.trace }
     ensures answers { ops.new.answers ≡ ops.old.answers }
 {
-    if is_command(input, Command::PairingRandom) {
-        return handle_pairing_random(ops, machine, peer_confirm, payload);
+    if received.is_command(Command::PairingRandom) {
+        return handle_pairing_random(ops, machine, peer_confirm, received.payload);
     }
-    Ok(other_input(machine, input, payload)?)
+    Ok(other_input(machine, received)?)
 }
 
 fn waiting_encrypted(
     ops: &mut Ops<'_>,
     machine: &mut Machine,
-    input: Input,
-    payload: &[u8],
+    received: Received<'_>,
 ) -> Result<(), Halt>
-    ensures ran { ran_machine ops.new.trace machine.new result ≡ run ops.old.answers.now (transition_from machine.old payload.now input phase.WaitingLinkEncrypted) ops.old.trace }
+    ensures ran { ran_machine ops.new.trace machine.new result ≡ run ops.old.answers.now (transition_from machine.old received.entry.payload.now received.entry.input phase.WaitingLinkEncrypted) ops.old.trace }
     ensures answers { ops.new.answers ≡ ops.old.answers }
 {
-    if let Some(encrypted) = link_encrypted(input) {
+    if let Some(encrypted) = received.link_encrypted() {
         return handle_link_encrypted(ops, machine, false, encrypted);
     }
-    Ok(other_input(machine, input, payload)?)
+    Ok(other_input(machine, received)?)
 }
 
-fn waiting_address(machine: &mut Machine, input: Input, payload: &[u8]) -> Result<(), Error>
-    ensures { ret (tried machine.new result) ≡ transition_from machine.old payload.now input phase.WaitingIdentitityAddressInformation }
+fn waiting_address(machine: &mut Machine, received: Received<'_>) -> Result<(), Error>
+    ensures { ret (tried machine.new result) ≡ transition_from machine.old received.entry.payload.now received.entry.input phase.WaitingIdentitityAddressInformation }
 {
-    if is_command(input, Command::IdentityAddressInformation) {
-        return handle_identity_address_information(machine, payload);
+    if received.is_command(Command::IdentityAddressInformation) {
+        return handle_identity_address_information(machine, received.payload);
     }
-    other_input(machine, input, payload)
+    other_input(machine, received)
 }
 
 // The phase says which of the two packets comes next; the LTK that came is not kept.
-fn receiving_keys(
-    machine: &mut Machine,
-    phase: u8,
-    input: Input,
-    payload: &[u8],
-) -> Result<(), Error>
-    ensures { ret (tried machine.new result) ≡ on_receiving_keys phase input (handle_encryption_information machine.old.pairing_data payload.now) (handle_central_identification machine.old.pairing_data payload.now) (other_input machine.old payload.now input) }
+// The phase is a number, as in the Rust: a record may hold any octet, and any other awaits nothing.
+fn receiving_keys(machine: &mut Machine, phase: u8, received: Received<'_>) -> Result<(), Error>
+    ensures { ret (tried machine.new result) ≡ on_receiving_keys phase received.entry.input (handle_encryption_information machine.old.pairing_data received.entry.payload.now) (handle_central_identification machine.old.pairing_data received.entry.payload.now) (other_input machine.old received.entry.payload.now received.entry.input) }
 {
-    if phase == 0 && is_command(input, Command::EncryptionInformation) {
-        return handle_encryption_information(machine, payload);
+    if phase == 0 && received.is_command(Command::EncryptionInformation) {
+        return handle_encryption_information(machine, received.payload);
     }
-    if phase == 1 && is_command(input, Command::CentralIdentification) {
-        return handle_central_identification(machine, payload);
+    if phase == 1 && received.is_command(Command::CentralIdentification) {
+        return handle_central_identification(machine, received.payload);
     }
-    other_input(machine, input, payload)
+    other_input(machine, received)
 }
 
 // The host's report on encryption.
@@ -300,9 +280,11 @@ fn handle_pass_key_input(
     ensures ran { ran_machine ops.new.trace machine.new result ≡ run ops.old.answers.now (handle_pass_key_input machine.old.confirm_data machine.old.pairing_data input confirm_bytes) ops.old.trace }
     ensures answers { ops.new.answers ≡ ops.old.answers }
 {
-    let preq = machine.confirm_data.preq;
-    let pres = machine.confirm_data.pres;
-    machine.confirm_data = confirm_phase_data(u128::from(input), preq, pres);
+    machine.confirm_data = ConfirmPhaseData {
+        tk: u128::from(input),
+        local_nonce: Nonce(0),
+        ..machine.confirm_data
+    };
     match confirm_bytes {
         Some(peer_confirm) => answer_confirm(ops, machine, peer_confirm),
         None => {

@@ -1,84 +1,73 @@
--- Laws of the fields of a line: from one space to the next. Assumes nothing.
-use Rattle.std.specs.Prelude.{Some, None}
-use Rattle.std.specs.List.{position_or_len}
-use Rattle.std.proofs.lemmas.List.Recursion.{is_position_or_len}
-use mathlib.Core.Path.{◌≡◌, refl, ap}
-use mathlib.Core.Bool.{Bool, true, false, cond}
-use mathlib.Core.List.{List, [], ◌∷◌}
-use Prim.Native.Nat.{zero-le, suc-le-suc, ℕ, suc, ◌+◌, ◌≤◌, ◌<◌}
-use native.Mathlib.Numerals.{add-one}
+-- Laws of the fields of a line, that `split` gives one after the other. Assumes nothing.
+use Rattle.std.specs.Prelude.{Option, Some, None, is_some}
+use Rattle.std.specs.Bool.{then_some}
+use Rattle.std.specs.Borrow.{Bor}
+use Rattle.std.specs.Fn.{CalledAt}
+use Rattle.std.specs.Iterator.{AlwaysYields}
+use Rattle.std.specs.List.{slice_split, onto_first}
+use Rattle.std.specs.Slice.Iter as slice
+use Rattle.std.proofs.lemmas.Iterator.{YieldsList}
+use Rattle.std.proofs.lemmas.Iterator.Splits.{YieldsList-from_slice_split}
+use denote.Param.Members.{Mut}
+use mathlib.Core.Path.{◌≡◌, refl, subst, sym, ap, ◌∙◌}
+use mathlib.Core.Bool.{Bool, true, false, not, cond}
+use mathlib.Core.List.{List, [], ◌∷◌, ◌++◌, append_assoc, append-nil}
+use Prim.Native.Nat.{ℕ, ◌≤◌, ◌<◌}
 use native.Mathlib.Omega.{arith}
-use lib.Dec.{leb, ltb, eqb}
-use borrow.Author.Tests.{ltb-true, ltb-false, le-leb, lt-leb, ne_eqb}
-use lib.ListN.{length, take, drop}
+use lib.Dec.{leb, eqb}
+use borrow.Author.Tests.{le-leb, lt-leb, ne_eqb}
+use lib.ListN.{length}
 use Rattle.lines.specs.Text.{space}
-use Rattle.lines.specs.Lines.{in_front, fields, line_with, line_of}
+use Rattle.lines.specs.declared.Fields.{Fields}
+use Rattle.lines.specs.Lines.{in_front, fields, line_of, line_in, SplitAs}
 
--- ---- the first space
-
--- the place of the first space, or the end where there is none
-abbrev pub space_in : List ℕ → ℕ
-space_in [] = 0
-space_in (c ∷ l) = cond (eqb c space) 0 (suc (space_in l))
-
-pub up_to_space : (l : List ℕ) → space_in l < length l → fields l ≡ take (space_in l) l ∷ fields (drop (suc (space_in l)) l)
+-- they are the parts that `split` gives
+parts : (l : List ℕ) → slice_split (λ c. eqb c space) l ≡ fields l
 unfolding fields
-up_to_space [] h = absurd (omega arith)
-up_to_space (c ∷ l) h = go (eqb c space) (λ k. up_to_space l k) h
+parts [] = refl
+parts (c ∷ l) = go (eqb c space) (slice_split (λ b. eqb b space) l) (parts l)
   where
-    go : (b : Bool) → (space_in l < length l → fields l ≡ take (space_in l) l ∷ fields (drop (suc (space_in l)) l)) → cond b 0 (suc (space_in l)) < suc (length l)
-        → cond b ([] ∷ fields l) (in_front c (fields l)) ≡ take (cond b 0 (suc (space_in l))) (c ∷ l) ∷ fields (drop (suc (cond b 0 (suc (space_in l)))) (c ∷ l))
-    go true below k = refl
-    go false below k = ap (in_front c) (below (omega arith))
+    go : (b : Bool) (fs : List (List ℕ)) {gs : List (List ℕ)} → fs ≡ gs → cond b ([] ∷ fs) (onto_first c fs) ≡ cond b ([] ∷ gs) (in_front c gs)
+    go true fs e = ap (λ (gs : List (List ℕ)). [] ∷ gs) e
+    go false [] e = ap (in_front c) e
+    go false (f ∷ fs) e = ap (in_front c) e
 
-pub without_space : (l : List ℕ) → space_in l ≡ length l → fields l ≡ l ∷ []
-unfolding fields
-without_space [] e = refl
-without_space (c ∷ l) e = go (eqb c space) (λ k. without_space l k) e
-  where
-    go : (b : Bool) → (space_in l ≡ length l → fields l ≡ l ∷ []) → cond b 0 (suc (space_in l)) ≡ suc (length l) → cond b ([] ∷ fields l) (in_front c (fields l)) ≡ (c ∷ l) ∷ []
-    go true below k = absurd (omega arith)
-    go false below k = ap (in_front c) (below (omega arith))
+-- the fields that `next` has given so far, and an iterator that gives the rest
+pub record Given {S : Type 0} (steps : S → Option (Bor (List ℕ)) → S → Type 0) (line : List ℕ) (given : List (List ℕ)) (s : S) : Type 0 where
+  pub rest : List (List ℕ)
+  pub all : fields line ≡ given ++ rest
+  pub gives : YieldsList steps (λ x. x.now) s rest
 
--- every line has a field
-pub some_field : (l : List ℕ) → 0 < length (fields l)
-unfolding fields
-some_field [] = omega arith
-some_field (c ∷ l) = go (eqb c space) (fields l)
-  where
-    go : (b : Bool) (fs : List (List ℕ)) → 0 < length (cond b ([] ∷ fs) (in_front c fs))
-    go true fs = omega arith
-    go false [] = omega arith
-    go false (f ∷ fs) = omega arith
+-- none so far
+pub none_given : {F : Type 0} {s : _} {f : F} {g : Mut F (Bor ℕ × Unit {0}) Bool} (line : List ℕ) (r : Option (Bor (List ℕ))) (t : _) → slice.split_steps g s r t
+    → slice.split_rest s ≡ line → slice.split_done s ≡ false → slice.split_callee s ≡ f → ((x : ℕ) (b : Bool) (q : F) → CalledAt g f x b q → (q ≡ f) × (b ≡ eqb x space))
+    → Given (slice.split_steps g) line [] s
+none_given {g = g} line r t k rest done closure tests = record {
+  rest = slice_split (λ b. eqb b space) line;
+  all = sym (parts line);
+  gives = YieldsList-from_slice_split g (λ b. eqb b space) line rest done closure tests;
+}
 
--- ---- what `position` finds
-
-at_first : (l : List ℕ) → space_in l ≡ position_or_len (λ c. eqb c space) l
-at_first = is_position_or_len space_in (λ c. eqb c space) refl (λ x xs. let e : suc (space_in xs) ≡ 1 + space_in xs = omega arith in ap (cond (eqb x space) 0) e)
-
-within : (l : List ℕ) → space_in l ≤ length l
-within [] = zero-le
-within (c ∷ l) = go (eqb c space) (within l)
-  where
-    go : (b : Bool) → space_in l ≤ length l → cond b 0 (suc (space_in l)) ≤ suc (length l)
-    go true h = zero-le
-    go false h = suc-le-suc h
-
-module _ (l : List ℕ) where
-  pub found_at : {i : ℕ} → Some i ≡ cond (ltb (position_or_len (λ c. eqb c space) l) (length l)) (Some (position_or_len (λ c. eqb c space) l)) None
-      → fields l ≡ take i l ∷ fields (drop (i + 1) l)
-  found_at {i} e = go (ltb (space_in l) (length l)) refl (rw (← at_first l) at e)
+module _ {S : Type 0} {steps : S → Option (Bor (List ℕ)) → S → Type 0} {line : List ℕ} {given : List (List ℕ)} {s t : S} {r : Option (Bor (List ℕ))} (w : Given steps line given s) where
+  pub one_more : {x : Bor (List ℕ)} → r ≡ Some x → steps s r t → Given steps line (given ++ (x.now ∷ [])) t
+  one_more {x} e k = go w.rest w.all w.gives.runs (subst (λ o. steps s o t) e k)
     where
-      go : (b : Bool) → ltb (space_in l) (length l) ≡ b → Some i ≡ cond b (Some (space_in l)) None → fields l ≡ take i l ∷ fields (drop (i + 1) l)
-      go true t f = let h : i ≡ space_in l = cc in rw (h, add-one) (up_to_space l (ltb-true (space_in l) (length l) t))
-      go false t f = absurd (let z : ◌≡◌ {A = ℕ} 0 1 = cc in omega arith)
+      go : (rest : List (List ℕ)) → fields line ≡ given ++ rest → AlwaysYields steps (λ y. y.now) s rest → steps s (Some x) t → Given steps line (given ++ (x.now ∷ [])) t
+      go [] a h j = absurd (h x t j)
+      go (f ∷ rest) a h j =
+          let m = h.1 x t j in
+          record {
+            rest = rest;
+            all = a ∙ ap (λ (g : List ℕ). given ++ (g ∷ rest)) (sym m.0) ∙ sym (append_assoc given (x.now ∷ []) rest);
+            gives = record { runs = m.1 };
+          }
 
-  pub found_none : None ≡ cond (ltb (position_or_len (λ c. eqb c space) l) (length l)) (Some (position_or_len (λ c. eqb c space) l)) None → fields l ≡ l ∷ []
-  found_none e = go (ltb (space_in l) (length l)) refl (rw (← at_first l) at e)
+  pub no_more : r ≡ None → steps s r t → fields line ≡ given
+  no_more e k = go w.rest w.all w.gives.runs (subst (λ o. steps s o t) e k)
     where
-      go : (b : Bool) → ltb (space_in l) (length l) ≡ b → None ≡ cond b (Some (space_in l)) None → fields l ≡ l ∷ []
-      go true t f = absurd (let z : ◌≡◌ {A = ℕ} 0 1 = cc in omega arith)
-      go false t f = let k = ltb-false (space_in l) (length l) t in let m = within l in without_space l (omega arith)
+      go : (rest : List (List ℕ)) → fields line ≡ given ++ rest → AlwaysYields steps (λ y. y.now) s rest → steps s None t → fields line ≡ given
+      go [] a h j = a ∙ append-nil given
+      go (f ∷ rest) a h j = absurd (h.0 t j)
 
 -- ---- lines by the number of their fields
 
@@ -86,15 +75,25 @@ same_either : {A : Type 0} (b : Bool) (x : A) → cond b x x ≡ x
 same_either true x = refl
 same_either false x = refl
 
-module _ (l : List ℕ) where
-  pub too_long : 20000 < length l → line_of l ≡ None
-  unfolding line_of
-  too_long h = rw (lt-leb (length l) 20000 h)
+pub too_long : (l : List ℕ) → 20000 < length l → line_of l ≡ None
+unfolding line_of
+too_long l h = rw (lt-leb (length l) 20000 h)
 
-  pub not_six : (length (fields l) ≡ 6 → ⊥) → line_of l ≡ None
-  unfolding line_of
-  not_six h = rw (ne_eqb (length (fields l)) 6 h) (same_either (leb (length l) 20000) None)
+not_six : (l : List ℕ) → (length (fields l) ≡ 6 → ⊥) → line_of l ≡ None
+unfolding line_of
+not_six l h = rw (ne_eqb (length (fields l)) 6 h) (same_either (leb (length l) 20000) None)
 
-  pub six : {a b c d e f : List ℕ} → length l ≤ 20000 → fields l ≡ a ∷ b ∷ c ∷ d ∷ e ∷ f ∷ [] → line_of l ≡ line_with a b c d e f
-  unfolding line_of
-  six h e = rw (le-leb (length l) 20000 h, e)
+module _ {S : Type 0} {steps : S → Option (Bor (List ℕ)) → S → Type 0} {l : List ℕ} {s t : S} where
+  -- a line that ends before its sixth field
+  pub fewer : {given : List (List ℕ)} {r : Option (Bor (List ℕ))} → Given steps l given s → length given < 6 → r ≡ None → steps s r t → line_of l ≡ None
+  fewer w h e k = let n = ap length (no_more w e k) in not_six l (λ m. omega arith)
+
+  -- a line that ends with its sixth, or goes on
+  pub six : (found : Fields) → length l ≤ 20000
+      → Given steps l (found.role.now ∷ found.room.now ∷ found.machine.now ∷ found.input.now ∷ found.payload.now ∷ found.answers.now ∷ []) s
+      → (r : Option (Bor (List ℕ))) (last : Bool) → is_some r ≡ not last → steps s r t → SplitAs l (then_some last found)
+  unfolding line_of line_in
+  six found h w None true e k = rw (le-leb (length l) 20000 h, no_more w refl k)
+  six found h w (Some x) false e k = let n = ap length (one_more w refl k).all in not_six l (λ m. omega arith)
+  six found h w None false e k = cc
+  six found h w (Some x) true e k = cc

@@ -1,11 +1,13 @@
 // A step line: ROLE LISTLEN MACHINE INPUT PAYLOAD ANSWERS, without its line feed.
 #![tactic(auto)]
 
-ghost use Rattle.std.specs.Prelude.{◌≡◌, ◌*◌, ◌<◌, ◌≤◌, length, None, IfSome};
-ghost use Rattle.lines.specs.Lines.{most, digit_of, octet_of, octets_in, octets_of_length, octets_field, role_of, room_of};
+ghost use Rattle.std.specs.Prelude.{◌≡◌, ◌≤◌, length, None, is_some};
+ghost use Rattle.std.specs.List.{list_all};
+ghost use Rattle.lines.specs.Lines.{most, digit_of, octets_in, octets_of_length, octets_field, role_of, room_of};
 ghost use Rattle.lines.specs.Lines.{machine_in, link_of, event_alone, command_of, pass_key_of, oob_data_of, input_of, may_carry};
-ghost use Rattle.lines.specs.Lines.{size_of, laid, Cut, SplitAs, line_with, fields_read, LineRead};
+ghost use Rattle.lines.specs.Lines.{size_of, laid, SplitAs, line_with, fields_read, LineRead};
 
+use hex::{FromHex, decode_to_slice};
 use machine::{Event, Input, Machine, Role};
 use octets::Number;
 use record::{RECORD_SIZE, read_machine};
@@ -13,7 +15,7 @@ use record::{RECORD_SIZE, read_machine};
 // No longer list, payload or answers.
 pub const MOST: usize = 4096;
 
-// Why a line was not read.
+// Why a line was not read: the error of `read_line`.
 #[derive(Clone, Copy, PartialEq, Eq)]
 pub enum LineError {
     Malformed,
@@ -33,69 +35,31 @@ pub struct ReadLine {
     pub answers: usize,
 }
 
-// A lower-case hexadecimal digit.
+// Digits alone, in lower case: `hex` reads upper case too.
 #[tactic(auto, unfolding(crate::specs::Lines::digit_of))]
-fn digit_value(c: u8) -> Option<u8>
-    ensures value { result ≡ digit_of c }
-    ensures below { IfSome result (λ v. v < 16) }
+fn are_digits(text: &[u8]) -> bool
+    ensures { result ≡ list_all (λ c. is_some (digit_of c)) text.now }
 {
-    match c {
-        b'0'..=b'9' => Some(c - b'0'),
-        b'a'..=b'f' => Some(10 + (c - b'a')),
-        _ => None,
-    }
-}
-
-// The octet of two digits, the high one first.
-#[tactic(auto, unfolding(crate::specs::Lines::octet_of))]
-fn octet(high: u8, low: u8) -> Option<u8>
-    ensures { result ≡ octet_of high low }
-{
-    let high = digit_value(high)?;
-    let low = digit_value(low)?;
-    Some(16 * high + low)
+    text.iter().all(|c| matches!(*c, b'0'..=b'9' | b'a'..=b'f'))
 }
 
 // Two digits to each octet: how many octets they are.
+#[tactic(auto, using(crate::proofs::Digits::counted))]
 fn octets_count(text: &[u8]) -> Option<usize>
     ensures { result ≡ size_of (octets_in text.now) }
 {
-    let (pairs, rest) = text.as_chunks::<2>();
-    for [high, low] in pairs {
-        octet(*high, *low)?;
-    }
-    match rest {
-        [] => Some(pairs.len()),
-        _ => None,
-    }
-}
-
-// Lays the octets of the digits at the front of out.
-// requires because it has no refusal: the caller has checked the digits and the room.
-fn put_octets(text: &[u8], out: &mut [u8])
-    requires { (octets_in text.now ≡ None → ⊥) × (length text.now ≤ 2 * length out.old) }
-    ensures { out.new ≡ laid out.old (octets_in text.now) }
-{
-    let n = text.len() / 2;
-    // by index: what `iter_mut` lends element by element is not known to be the whole buffer again
-    for i in 0..n {
-        let Some(b) = octet(text[2 * i], text[2 * i + 1]) else {
-            return;
-        };
-        out[i] = b;
-    }
+    (are_digits(text) && text.len() % 2 == 0).then_some(text.len() / 2)
 }
 
 // So many octets.
-fn octets<const N: usize>(text: &[u8]) -> Option<[u8; N]>
+#[tactic(auto, using(crate::proofs::Digits::sized_by_hex))]
+fn read_octets<const N: usize>(text: &[u8]) -> Option<[u8; N]>
     ensures { result ≡ octets_of_length N text.now }
 {
-    if octets_count(text)? != N {
+    if !are_digits(text) {
         return None;
     }
-    let mut octets = [0; N];
-    put_octets(text, &mut octets);
-    Some(octets)
+    <[u8; N]>::from_hex(text).ok()
 }
 
 // PAYLOAD or ANSWERS: how many octets the field holds.
@@ -119,7 +83,8 @@ fn put_field(text: &[u8], out: &mut [u8])
     if text.len() < 2 {
         return;
     }
-    put_octets(text, out)
+    let end = text.len() / 2;
+    let _ = decode_to_slice(text, &mut out[..end]);
 }
 
 // ROLE: one letter.
@@ -134,6 +99,7 @@ fn read_role(text: &[u8]) -> Option<Role>
 }
 
 // LISTLEN: one to four decimal digits.
+// By hand: tried by `parse`, and the proof did not close.
 #[tactic(auto, unfolding(crate::specs::Lines::room_of))]
 fn read_room(text: &[u8]) -> Option<usize>
     ensures { result ≡ room_of text.now }
@@ -152,11 +118,11 @@ fn read_room(text: &[u8]) -> Option<usize>
 }
 
 // MACHINE: the record of 161 octets.
-#[tactic(auto, unfolding(crate::specs::Lines::machine_in))]
+#[tactic(auto, using(crate::proofs::Values::machine_sized))]
 fn read_machine_field(role: Role, text: &[u8]) -> Option<Machine>
     ensures { result ≡ machine_in role text.now }
 {
-    let record = octets::<RECORD_SIZE>(text)?;
+    let record = read_octets::<RECORD_SIZE>(text)?;
     read_machine(role, &record).ok()
 }
 
@@ -164,7 +130,7 @@ fn read_machine_field(role: Role, text: &[u8]) -> Option<Machine>
 fn read_command(text: &[u8]) -> Option<Input>
     ensures { result ≡ command_of text.now }
 {
-    let [code] = octets::<1>(text)?;
+    let [code] = read_octets::<1>(text)?;
     Some(Input::Command(code))
 }
 
@@ -193,7 +159,7 @@ fn read_alone(event: Event, text: &[u8]) -> Option<Input>
 fn read_pass_key(text: &[u8]) -> Option<Input>
     ensures { result ≡ pass_key_of text.now }
 {
-    let pass_key = u32::from_le_bytes(octets(text)?);
+    let pass_key = u32::from_le_bytes(read_octets(text)?);
     Some(Input::Event(Event::PassKeyInput(pass_key)))
 }
 
@@ -201,7 +167,7 @@ fn read_pass_key(text: &[u8]) -> Option<Input>
 fn read_oob_data(text: &[u8]) -> Option<Input>
     ensures { result ≡ oob_data_of text.now }
 {
-    let random = u128::from_octets(octets(text)?);
+    let random = u128::from_octets(read_octets(text)?);
     Some(Input::Event(Event::OobDataReceived(random)))
 }
 
@@ -265,42 +231,30 @@ impl Fields<'_> {
     }
 }
 
-// What stands before the first space, and behind it.
-fn cut(text: &[u8]) -> Option<(&[u8], &[u8])>
-    ensures { Cut text.now result }
-{
-    let at = text.iter().position(|c| *c == b' ')?;
-    Some((&text[..at], &text[at + 1..]))
-}
-
 // Exactly six fields, with one space between, in a line that is not too long.
+#[tactic(auto, using(crate::proofs::Splits::too_long))]
 fn split_line(line: &[u8]) -> Option<Fields<'_>>
     ensures { SplitAs line.now result }
 {
     if 20000 < line.len() {
         return None;
     }
-    let (role, rest) = cut(line)?;
-    let (room, rest) = cut(rest)?;
-    let (machine, rest) = cut(rest)?;
-    let (input, rest) = cut(rest)?;
-    let (payload, answers) = cut(rest)?;
-    match cut(answers) {
-        None => Some(Fields {
-            role,
-            room,
-            machine,
-            input,
-            payload,
-            answers,
-        }),
-        Some(_) => None,
-    }
+    let mut fields = line.split(|c| *c == b' ');
+    let found = Fields {
+        role: fields.next()?,
+        room: fields.next()?,
+        machine: fields.next()?,
+        input: fields.next()?,
+        payload: fields.next()?,
+        answers: fields.next()?,
+    };
+    fields.next().is_none().then_some(found)
 }
 
 // Reads a line, given without its line feed. The octets of PAYLOAD and ANSWERS are laid at the front of the lent
 // buffers, of 4096 octets at least; where the line is malformed or a buffer is shorter, nothing is written.
 // They are lent, and not returned, since there is no heap.
+#[tactic(auto, unfolding(crate::specs::Lines::line_answer, crate::specs::Lines::laid, crate::specs::Lines::line_in, crate::specs::Lines::have_room, crate::specs::Lines::read_of), using(crate::proofs::Buffers::fields_laid, crate::proofs::Buffers::read_as))]
 pub fn read_line(line: &[u8], payload: &mut [u8], answers: &mut [u8]) -> Result<ReadLine, LineError>
     ensures { LineRead line.now payload.old answers.old result payload.new answers.new }
 {

@@ -75,6 +75,7 @@ pub struct ConfirmPhaseData {
 }
 
 // A state of either role, without the arrays that it holds: those stand in `ConfirmPhaseData`.
+// One type for both roles: docs/DIFFERENCES.md has why.
 #[derive(Clone, Copy, PartialEq, Eq)]
 pub enum Phase {
     // the peripheral's first state
@@ -126,24 +127,26 @@ impl Phase {
     }
 }
 
-impl ConfirmPhaseData {
+impl Default for ConfirmPhaseData {
+    ghost is_default = { λ zeros. zeros ≡ no_confirm_data };
+
     // Zeros: what a state holds that holds none of it.
-    pub fn none() -> ConfirmPhaseData
-        ensures { result ≡ no_confirm_data }
-    {
-        ConfirmPhaseData {
+    fn default() -> Self {
+        Self {
             tk: 0,
             preq: [0; 7],
             pres: [0; 7],
             local_nonce: Nonce(0),
         }
     }
+}
 
+impl ConfirmPhaseData {
     // What the state of a phase holds of it, and zeros for the rest.
     pub fn kept_by(self, phase: Phase) -> ConfirmPhaseData
         ensures { result ≡ kept_by phase self }
     {
-        let none = ConfirmPhaseData::none();
+        let none = ConfirmPhaseData::default();
         let preq = self.preq;
         let pres = self.pres;
         match phase {
@@ -175,7 +178,7 @@ impl Machine {
     {
         Machine {
             phase: Phase::WaitingPairingRequest,
-            confirm_data: ConfirmPhaseData::none(),
+            confirm_data: ConfirmPhaseData::default(),
             pairing_data,
         }
     }
@@ -190,7 +193,7 @@ impl Machine {
             phase: Phase::WaitingPairingResponse,
             confirm_data: ConfirmPhaseData {
                 preq: [u8::from(Command::PairingRequest), a, b, c, d, e, f],
-                ..ConfirmPhaseData::none()
+                ..ConfirmPhaseData::default()
             },
             pairing_data,
         }
@@ -200,9 +203,8 @@ impl Machine {
     pub fn enters(&mut self, phase: Phase)
         ensures { self.new ≡ record { phase = phase; confirm_data = kept_by phase self.old.confirm_data; pairing_data = self.old.pairing_data } }
     {
-        let confirm_data = self.confirm_data.kept_by(phase);
         self.phase = phase;
-        self.confirm_data = confirm_data;
+        self.confirm_data = self.confirm_data.kept_by(phase);
     }
 
     pub fn result(self) -> Option<Result<(), Error>>
@@ -212,6 +214,7 @@ impl Machine {
     }
 
     // The level of the bond where the link is encrypted; 0 stands for no encryption.
+    // A number: a bond of the host keeps the level that the host gave, any octet.
     #[tactic(auto, unfolding(crate::specs::Machine::security_level_of))]
     pub fn security_level(self) -> u8
         ensures { result ≡ security_level_of self }

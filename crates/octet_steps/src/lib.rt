@@ -1,6 +1,6 @@
 // Steps and fresh machines on octet slices and numbers: a machine is its record of 161 octets. A refusal leaves the record
 // and the list as they were.
-// Roles and inputs are numbers here, since C gives them so.
+// Roles and inputs are numbers here, and payload and answers apart, since C gives them so.
 #![tactic(auto)]
 
 ghost use Rattle.std.specs.Prelude.{ℕ, ◌≡◌};
@@ -12,7 +12,7 @@ ghost use Rattle.octet_steps.specs.Steps.{step_on, fresh_machine, new_on, role_a
 use bond::{Address, read_flag};
 use machine::{Event, Input, Machine, PairingData, Role};
 use octet_values::{OctetsError, address_in, put};
-use octets::read_word;
+use octets::Number;
 use pairing::{Outcome, Refusal, step};
 use record::{RecordError, machine_octets, read_machine};
 use types::PairingFeatures;
@@ -88,6 +88,7 @@ impl From<InputError> for StepError {
 }
 
 // 0 the terminal, 1 the head.
+// No TryFrom of Role: the numbers are those of the C interface.
 #[tactic(auto, unfolding(crate::specs::Steps::role_of))]
 fn role_of(role: u8) -> Option<Role>
     ensures { role_answer result ≡ role_of role }
@@ -110,6 +111,7 @@ fn without_data(payload: &[u8], event: Event) -> Result<Input, InputError>
 }
 
 // One octet, 0 or 1.
+// By map_err, here and below: a From would take the wrong length of anything for that of an event's data.
 fn link_result(payload: &[u8]) -> Result<Input, InputError>
     ensures { input_answer result ≡ link_result_of payload.now }
 {
@@ -131,7 +133,7 @@ fn oob_data_received(payload: &[u8]) -> Result<Input, InputError>
     ensures { input_answer result ≡ oob_data_received_of payload.now }
 {
     let octets = <[u8; 16]>::try_from(payload).map_err(|_| InputError::EventData)?;
-    Ok(Input::Event(Event::OobDataReceived(read_word(&octets, 0))))
+    Ok(Input::Event(Event::OobDataReceived(u128::from_octets(octets))))
 }
 
 // A command code, or 0x100 and an event's number. An event has its data in the payload's place.
@@ -150,7 +152,8 @@ fn input_of(input: u16, payload: &[u8]) -> Result<Input, InputError>
     }
 }
 
-// How far a step came: it ended, or it wants an answer.
+// How far a step came: it ended, or it wants an answer. A bool and no enum: the counts are the same in both, and C gets a
+// number by it.
 #[derive(Clone, Copy, PartialEq, Eq)]
 pub struct Progress {
     pub is_ended: bool,
@@ -194,7 +197,7 @@ pub fn step_machine(
 
 // A machine that begins a pairing with these addresses and features.
 #[tactic(auto, unfolding(machine::specs::Machine::new_data))]
-fn fresh_machine(
+pub fn fresh_machine(
     role: Role,
     local_address: Address,
     peer_address: Address,

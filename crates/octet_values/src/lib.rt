@@ -9,15 +9,12 @@ ghost use Rattle.octet_values.specs.declared.OctetsError.TheVariants.{InvalidVal
 ghost use Rattle.octet_values.specs.Values.{of_length, address_in, word_in, wrote, writes, read_features_on, write_features_on, c1_on, s1_on};
 ghost use Rattle.octet_values.specs.Values.{call_on, error_number, codec_error, octets_number, octets_answer, call_given};
 
-use bond::{Address, read_address};
+use bond::Address;
 use call_list::InvalidList;
 use crypto::{Nonce, c1, s1};
 use host::call::body_length;
-use octets::{read_word, word_to_octets};
-use types::{
-    AuthReq, InvalidValue, IoCapabilities, KeyDistributionFlags, PairingFeatures, UseOutOfBand,
-    codec,
-};
+use octets::{Number, word_to_octets};
+use types::{InvalidValue, PairingFeatures, codec};
 
 // Why an operation is refused, with the number that C gets. 4 to 6 are document 01's.
 #[derive(Clone, Copy, PartialEq, Eq)]
@@ -94,7 +91,7 @@ pub fn address_in(s: &[u8]) -> Result<Address, OctetsError>
     ensures { octets_answer result ≡ address_in s.now }
 {
     let octets = octets_in::<7>(s)?;
-    Ok(read_address(&octets, 0))
+    Ok(Address::from(octets))
 }
 
 // Sixteen octets.
@@ -103,7 +100,7 @@ fn word_in(s: &[u8]) -> Result<u128, OctetsError>
     ensures { octets_answer result ≡ word_in s.now }
 {
     let octets = octets_in::<16>(s)?;
-    Ok(read_word(&octets, 0))
+    Ok(u128::from_octets(octets))
 }
 
 // Reads pairing features: of a packet's payload, the six fields, an octet each.
@@ -128,14 +125,8 @@ pub fn write_features(
 ) -> Result<(), OctetsError>
     ensures { wrote (octets_number result) payload.new ≡ write_features_on io oob auth_req key_size initiator_keys responder_keys payload.old }
 {
-    let features = PairingFeatures {
-        io_capabilities: IoCapabilities::try_from(io)?,
-        use_oob: UseOutOfBand::try_from(oob)?,
-        security_properties: AuthReq(auth_req),
-        maximum_encryption_key_size: key_size,
-        initiator_key_distribution: KeyDistributionFlags(initiator_keys),
-        responder_key_distribution: KeyDistributionFlags(responder_keys),
-    };
+    let octets = [io, oob, auth_req, key_size, initiator_keys, responder_keys];
+    let features = PairingFeatures::try_from(octets)?;
     put(&features.encode(), payload)
 }
 
@@ -192,8 +183,7 @@ pub fn short_term_key(
 pub fn count_calls(list: &[u8]) -> Result<usize, OctetsError>
     ensures { octets_answer result ≡ count_of list.now }
 {
-    let count = call_list::count_calls(list)?;
-    Ok(count)
+    Ok(call_list::count_calls(list)?)
 }
 
 // A call of a list: its kind, and the place and the size of its body.

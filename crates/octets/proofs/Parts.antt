@@ -1,6 +1,6 @@
 -- Laws of a part of a list that is written, and of a part that is lent, over place and width. Assumes nothing.
 use mathlib.Core.Path.{◌≡◌, refl, sym, ap, ap₂, ◌∙◌}
-use mathlib.Core.Bool.{Bool, true, false}
+use mathlib.Core.Bool.{true, false}
 use mathlib.Core.List.{List, ◌++◌, append_assoc, append-nil}
 use Prim.Native.Nat.{ℕ, ◌+◌, ◌-◌, ◌≤◌, ◌<◌}
 use native.Mathlib.Omega.{arith}
@@ -8,7 +8,7 @@ use borrow.Author.Tests.{leb-true, le-leb, lt-leb}
 use borrow.Rule.Slice.PartMut.{put_mid, Post-is}
 use lib.ListN.{length, take, drop, length-append, length-drop, drop_of_length-le}
 use lib.Seq.{take_at, drop_at, drop-drop, drop-append-add, length-take-le}
-use Rattle.octets.specs.Octets.{fits_at, write_at, Written}
+use Rattle.octets.specs.Octets.{fits_at, write_at}
 
 -- ---- a part that is lent, `&mut s[a..e]`, and comes back as q
 pub first_part : (s : List ℕ) (a e : ℕ) (q : List ℕ) → a ≤ e → put_mid a (e - a) s q ≡ take a s ++ (q ++ drop e s)
@@ -73,25 +73,6 @@ write_then s v w at h =
     ∙ ap₂ (λ (t u : List ℕ). t ++ u) (append_assoc (take at s) v w) (drop-drop (length w) (at + length v) s ∙ ap (λ (n : ℕ). drop n s) sum)
     ∙ append_assoc (take at s) (v ++ w) (drop (at + length (v ++ w)) s)
     ∙ sym (written s at (v ++ w) (rw sum at h))
-
--- ---- what writes answer and leave
-
--- where w does not fit, it is not written
-pub left_out : (s : List ℕ) (at : ℕ) (w : List ℕ) → length s < at + length w → Written s at w false s
-left_out s at w h = record { answer = sym (fits_not s at w h); slice = sym (not_written s at w h) }
-
--- where both have room, v is written, and then w behind it
-pub written_then : (s v w : List ℕ) (at : ℕ) {s₁ s₂ : List ℕ} {d₁ d₂ : Bool} → at + length v + length w ≤ length s
-    → Written s at v d₁ s₁ → Written s₁ (at + length v) w d₂ s₂ → Written s at (v ++ w) d₂ s₂
-written_then s v w at h a b =
-    let k : at + length v ≤ length s = omega arith in
-    let l : length (write_at s at v) ≡ length s = length_written s at v k in
-    let first : at + length v + length w ≤ length (write_at s at v) = omega arith in
-    let both : at + length (v ++ w) ≤ length s = rw length-append (omega arith) in
-    record {
-      answer = b.answer ∙ ap (λ (t : List ℕ). fits_at t (at + length v) w) a.slice ∙ fits (write_at s at v) (at + length v) w first ∙ sym (fits s at (v ++ w) both);
-      slice = b.slice ∙ ap (λ (t : List ℕ). write_at t (at + length v) w) a.slice ∙ write_then s v w at h;
-    }
 
 -- a string over all of another of its length
 pub over_all : (s w : List ℕ) → length s ≡ length w → write_at s 0 w ≡ w

@@ -1,13 +1,11 @@
 -- Inner: words between the code's functions; the archive's contracts, demand 3 and the worked cases do not rest on it.
 -- What the code's functions give, as runs. Assumes nothing.
-use Rattle.std.specs.Prelude.{ℕ, ◌+◌, List, Bool, Result, Ok, Err}
+use Rattle.std.specs.Prelude.{ℕ, ◌+◌, List, Result, Ok, Err}
 use Rattle.bond.specs.declared.Error.{Error}
-use Rattle.host.specs.Calls.{push_of, kind_of, question_kind}
+use Rattle.host.specs.Calls.{push_of, kind_of}
 use Rattle.host.specs.declared.call.Call.{Call}
-use Rattle.host.specs.declared.call.Call.TheVariants as call
-use Rattle.host.specs.declared.call.Question.{Question}
 use Rattle.host.specs.declared.call.Trace.{Trace}
-use Rattle.answer.specs.Answers.{flag_at}
+use Rattle.answer.specs.Answers.{Found, on_found, body_at}
 use Rattle.answer.specs.declared.Stop.{Stop}
 use Rattle.protocol.specs.Ops.{Delivery, delivered, undelivered, taken, delivery_at}
 use Rattle.ops.specs.Run.{Ran, ended, stopped, on_taken}
@@ -38,6 +36,6 @@ ran_delivery t (Err h) = on_halt t (λ e u. ended (undelivered e) u) h
 abbrev pub told : Call → List ℕ → Trace → Ran Delivery
 told c s t = on_taken (push_of t c) (taken (t.read + 2) (delivery_at s t.read (kind_of c)))
 
--- a question that is answered by yes or no
-abbrev pub asked_flag : Question → List ℕ → Trace → Ran Bool
-asked_flag q s t = on_taken (push_of t (call.Ask q)) (taken (t.read + 2) (flag_at s t.read (question_kind q)))
+-- a call whose answer is read of a body of n octets
+abbrev pub asked : {A : Type 0} → (List ℕ → Found A) → ℕ → Call → List ℕ → Trace → Ran A
+asked said n c s t = on_taken (push_of t c) (taken (t.read + (1 + n)) (on_found (body_at s t.read (kind_of c) n) said))

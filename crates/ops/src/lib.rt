@@ -9,12 +9,9 @@ ghost use Rattle.host.specs.declared.call.Draw.TheVariants as draw;
 ghost use Rattle.host.specs.declared.call.Call.TheVariants as call;
 ghost use Rattle.ops.specs.declared.Halt.TheVariants as halt;
 ghost use Rattle.ops.specs.Run.{answer_to};
-ghost use Rattle.ops.specs.Asked.{ran_answer, ran_result, ran_delivery, told, asked_flag};
+ghost use Rattle.ops.specs.Asked.{ran_answer, ran_result, ran_delivery, told, asked};
 
-use answer::{
-    Stop, read_bonded_encryption, read_ediv, read_encryption, read_identity_address, read_irk,
-    read_ltk, read_nonce, read_passkey, read_rand, read_verdict, read_yes_no,
-};
+use answer::{Answer, Stop, read_answer};
 use bond::{Address, BondInformation, Error};
 use crypto::{IdentityResolvingKey, LongTermKey, Nonce};
 use host::{Call, ConnectionEvent, Draw, Packet, Question, Trace};
@@ -44,6 +41,9 @@ impl From<Stop> for Halt {
 }
 
 // What a step has done so far, and the answers that it was given.
+// Each function says that the answers stay: a ghost field cannot speak of the value before.
+// A handler takes the host and the machine apart, as the Rust's take `ops` and the pairing data.
+#[derive(Drop)]
 pub struct Ops<'a> {
     pub trace: Trace,
     pub answers: &'a [u8],
@@ -55,45 +55,31 @@ impl<'a> Ops<'a> {
         ensures answers { result.answers ≡ answers.entry }
     {
         Ops {
-            trace: Trace::none(),
+            trace: Trace::default(),
             answers,
         }
     }
 
-    // One more call. Gives the place of its answer.
-    fn list(&mut self, call: Call) -> usize
-        ensures trace { self.new.trace ≡ push_of self.old.trace call }
-        ensures place { result ≡ self.old.trace.read }
+    // One more call, and its answer, behind which the trace then has read.
+    fn ask<T: Answer<N>, const N: usize>(&mut self, call: Call) -> Result<T, Stop>
+        ensures ran { ran_answer self.new.trace result ≡ asked T.said N call self.old.answers.now self.old.trace }
         ensures answers { self.new.answers ≡ self.old.answers }
     {
         let at = self.trace.read;
         self.trace.push(call);
-        at
+        let answer = read_answer::<T, N>(self.answers, at, call.kind())?;
+        self.trace.read = at + 1 + N;
+        Ok(answer)
     }
 
     // A call that is answered by a verdict alone.
+    #[tactic(auto, unfolding(answer::specs::Answers::verdict_at))]
     fn tell(&mut self, call: Call) -> Result<(), Halt>
         ensures ran { ran_delivery self.new.trace result ≡ told call self.old.answers.now self.old.trace }
         ensures answers { self.new.answers ≡ self.old.answers }
     {
-        let at = self.list(call);
-        let verdict = read_verdict(self.answers, at, call.kind())?;
-        self.trace.read = at + 2;
-        if verdict != 0 {
-            return Err(Halt::Failed(Error::from_verdict(verdict)));
-        }
-        Ok(())
-    }
-
-    // A question that is answered by yes or no.
-    fn ask_flag(&mut self, question: Question) -> Result<bool, Stop>
-        ensures ran { ran_answer self.new.trace result ≡ asked_flag question self.old.answers.now self.old.trace }
-        ensures answers { self.new.answers ≡ self.old.answers }
-    {
-        let at = self.list(Call::Ask(question));
-        let yes = read_yes_no(self.answers, at, question)?;
-        self.trace.read = at + 2;
-        Ok(yes)
+        let done: Result<(), Error> = self.ask(call)?;
+        Ok(done?)
     }
 
     #[tactic(auto, unfolding(crate::specs::Run::answer_to))]
@@ -105,27 +91,26 @@ impl<'a> Ops<'a> {
     }
 
     // Whether there is a bond.
-    #[tactic(auto, unfolding(crate::specs::Run::answer_to))]
+    #[tactic(auto, unfolding(crate::specs::Run::answer_to, answer::specs::Answers::flag_at))]
     pub fn find_bond(&mut self) -> Result<bool, Stop>
         ensures ran { ran_answer self.new.trace result ≡ answer_to (call.Ask question.FindBond) self.old.answers.now self.old.trace }
         ensures answers { self.new.answers ≡ self.old.answers }
     {
-        self.ask_flag(Question::FindBond)
+        self.ask(Call::Ask(Question::FindBond))
     }
 
-    #[tactic(auto, unfolding(crate::specs::Run::answer_to))]
+    #[tactic(auto, unfolding(crate::specs::Run::answer_to, answer::specs::Answers::bonded_at))]
     pub fn try_enable_bonded_encryption(&mut self) -> Result<Option<BondInformation>, Halt>
         ensures ran { ran_result self.new.trace result ≡ answer_to call.EnableBondedEncryption self.old.answers.now self.old.trace }
         ensures answers { self.new.answers ≡ self.old.answers }
     {
-        let at = self.list(Call::EnableBondedEncryption);
-        let bond = read_bonded_encryption(self.answers, at)?;
-        self.trace.read = at + 54;
+        let bond: Result<Option<BondInformation>, Error> = self.ask(Call::EnableBondedEncryption)?;
         Ok(bond?)
     }
 
     // Not bonded: EDIV and Rand are zero.
-    #[tactic(auto, unfolding(crate::specs::Run::answer_to))]
+    // The level is a number: the host may give any octet.
+    #[tactic(auto, unfolding(crate::specs::Run::answer_to, answer::specs::Answers::encryption_at))]
     pub fn try_enable_encryption(
         &mut self,
         ltk: LongTermKey,
@@ -135,13 +120,12 @@ impl<'a> Ops<'a> {
         ensures ran { ran_result self.new.trace result ≡ answer_to (call.EnableEncryption ltk security_level encryption_key_len) self.old.answers.now self.old.trace }
         ensures answers { self.new.answers ≡ self.old.answers }
     {
-        let at = self.list(Call::EnableEncryption {
+        let call = Call::EnableEncryption {
             ltk,
             security_level,
             encryption_key_len,
-        });
-        let bond = read_encryption(self.answers, at)?;
-        self.trace.read = at + 53;
+        };
+        let bond: Result<BondInformation, Error> = self.ask(call)?;
         Ok(bond?)
     }
 
@@ -162,100 +146,81 @@ impl<'a> Ops<'a> {
     }
 
     // Whether the host wishes to bond.
-    #[tactic(auto, unfolding(crate::specs::Run::answer_to))]
+    #[tactic(auto, unfolding(crate::specs::Run::answer_to, answer::specs::Answers::flag_at))]
     pub fn bonding_flag(&mut self) -> Result<bool, Stop>
         ensures ran { ran_answer self.new.trace result ≡ answer_to (call.Ask question.BondingFlag) self.old.answers.now self.old.trace }
         ensures answers { self.new.answers ≡ self.old.answers }
     {
-        self.ask_flag(Question::BondingFlag)
+        self.ask(Call::Ask(Question::BondingFlag))
     }
 
     // Whether OOB data is available for this connection.
-    #[tactic(auto, unfolding(crate::specs::Run::answer_to))]
+    #[tactic(auto, unfolding(crate::specs::Run::answer_to, answer::specs::Answers::flag_at))]
     pub fn oob_available(&mut self) -> Result<bool, Stop>
         ensures ran { ran_answer self.new.trace result ≡ answer_to (call.Ask question.OobAvailable) self.old.answers.now self.old.trace }
         ensures answers { self.new.answers ≡ self.old.answers }
     {
-        self.ask_flag(Question::OobAvailable)
+        self.ask(Call::Ask(Question::OobAvailable))
     }
 
     // The local Identity Resolving Key; all zeros where there is none.
-    #[tactic(auto, unfolding(crate::specs::Run::answer_to))]
+    #[tactic(auto, unfolding(crate::specs::Run::answer_to, answer::specs::Answers::irk_at))]
     pub fn local_irk(&mut self) -> Result<IdentityResolvingKey, Stop>
         ensures ran { ran_answer self.new.trace result ≡ answer_to (call.Ask question.LocalIrk) self.old.answers.now self.old.trace }
         ensures answers { self.new.answers ≡ self.old.answers }
     {
-        let at = self.list(Call::Ask(Question::LocalIrk));
-        let irk = read_irk(self.answers, at)?;
-        self.trace.read = at + 17;
-        Ok(irk)
+        self.ask(Call::Ask(Question::LocalIrk))
     }
 
     // The local identity address, which may be another than the one used in pairing.
-    #[tactic(auto, unfolding(crate::specs::Run::answer_to))]
+    #[tactic(auto, unfolding(crate::specs::Run::answer_to, answer::specs::Answers::address_at))]
     pub fn local_identity_address(&mut self) -> Result<Address, Halt>
         ensures ran { ran_result self.new.trace result ≡ answer_to (call.Ask question.LocalIdentityAddress) self.old.answers.now self.old.trace }
         ensures answers { self.new.answers ≡ self.old.answers }
     {
-        let at = self.list(Call::Ask(Question::LocalIdentityAddress));
-        let address = read_identity_address(self.answers, at)?;
-        self.trace.read = at + 9;
+        let call = Call::Ask(Question::LocalIdentityAddress);
+        let address: Result<Address, Error> = self.ask(call)?;
         Ok(address?)
     }
 
     // Mrand or Srand; never zero.
-    #[tactic(auto, unfolding(crate::specs::Run::answer_to))]
+    #[tactic(auto, unfolding(crate::specs::Run::answer_to, answer::specs::Answers::nonce_at))]
     pub fn draw_nonce(&mut self) -> Result<Nonce, Stop>
         ensures ran { ran_answer self.new.trace result ≡ answer_to (call.Draw draw.Nonce) self.old.answers.now self.old.trace }
         ensures answers { self.new.answers ≡ self.old.answers }
     {
-        let at = self.list(Call::Draw(Draw::Nonce));
-        let nonce = read_nonce(self.answers, at)?;
-        self.trace.read = at + 17;
-        Ok(nonce)
+        self.ask(Call::Draw(Draw::Nonce))
     }
 
-    #[tactic(auto, unfolding(crate::specs::Run::answer_to))]
+    #[tactic(auto, unfolding(crate::specs::Run::answer_to, answer::specs::Answers::pass_key_at))]
     pub fn draw_passkey(&mut self) -> Result<PassKey, Stop>
         ensures ran { ran_answer self.new.trace result ≡ answer_to (call.Draw draw.PassKey) self.old.answers.now self.old.trace }
         ensures answers { self.new.answers ≡ self.old.answers }
     {
-        let at = self.list(Call::Draw(Draw::PassKey));
-        let passkey = read_passkey(self.answers, at)?;
-        self.trace.read = at + 5;
-        Ok(passkey)
+        self.ask(Call::Draw(Draw::PassKey))
     }
 
-    #[tactic(auto, unfolding(crate::specs::Run::answer_to))]
+    #[tactic(auto, unfolding(crate::specs::Run::answer_to, answer::specs::Answers::ltk_at))]
     pub fn draw_ltk(&mut self) -> Result<LongTermKey, Stop>
         ensures ran { ran_answer self.new.trace result ≡ answer_to (call.Draw draw.LongTermKey) self.old.answers.now self.old.trace }
         ensures answers { self.new.answers ≡ self.old.answers }
     {
-        let at = self.list(Call::Draw(Draw::LongTermKey));
-        let ltk = read_ltk(self.answers, at)?;
-        self.trace.read = at + 17;
-        Ok(ltk)
+        self.ask(Call::Draw(Draw::LongTermKey))
     }
 
-    #[tactic(auto, unfolding(crate::specs::Run::answer_to))]
+    #[tactic(auto, unfolding(crate::specs::Run::answer_to, answer::specs::Answers::ediv_at))]
     pub fn draw_ediv(&mut self) -> Result<u16, Stop>
         ensures ran { ran_answer self.new.trace result ≡ answer_to (call.Draw draw.Ediv) self.old.answers.now self.old.trace }
         ensures answers { self.new.answers ≡ self.old.answers }
     {
-        let at = self.list(Call::Draw(Draw::Ediv));
-        let ediv = read_ediv(self.answers, at)?;
-        self.trace.read = at + 3;
-        Ok(ediv)
+        self.ask(Call::Draw(Draw::Ediv))
     }
 
-    #[tactic(auto, unfolding(crate::specs::Run::answer_to))]
+    #[tactic(auto, unfolding(crate::specs::Run::answer_to, answer::specs::Answers::rand_at))]
     pub fn draw_rand(&mut self) -> Result<u64, Stop>
         ensures ran { ran_answer self.new.trace result ≡ answer_to (call.Draw draw.Rand) self.old.answers.now self.old.trace }
         ensures answers { self.new.answers ≡ self.old.answers }
     {
-        let at = self.list(Call::Draw(Draw::Rand));
-        let rand = read_rand(self.answers, at)?;
-        self.trace.read = at + 9;
-        Ok(rand)
+        self.ask(Call::Draw(Draw::Rand))
     }
 }

@@ -1,314 +1,204 @@
 // The arguments: a scene or two feature records, and --late. Wrong ones are answered by one line, which says what is
 // wrong and what would be right.
-use crate::buffer::{octet, part, put, same};
-use crate::hosts::{HEAD, TERMINAL, record};
-use crate::print::{end, quoted, say, small};
-use octet_values::read_features;
+use crate::ends::{Ends, end_name};
+use crate::print::{Quoted, printable};
+use arrayvec::ArrayVec;
+use hex::{FromHex, FromHexError};
+use machine::Role;
 use std::env::{Env, FillError};
-use std::io;
-use types::KeyDistributionFlags;
+use std::fmt;
+use types::{IoCapabilities, PairingFeatures, UseOutOfBand};
 
 // The longest argument that is looked at.
-const WORD: usize = 64;
+const LONGEST: usize = 64;
 
-fn right(rt: &impl Print) -> io::Result<()> {
-    say(
-        rt,
-        b" Right: pair [--late] SCENE, of clerk, bonded, passkey, typed, oob, plain; or pair [--late] TERMINAL HEAD, ",
-    )?;
-    say(rt, b"each 12 hexadecimal digits.\n")
+// An argument. One that is longer reads as empty: no scene and no record has such a name.
+type Word = ArrayVec<u8, LONGEST>;
+
+pub(crate) struct Arguments {
+    pub records: Ends<PairingFeatures>,
+    pub is_late: bool,
 }
 
-// Copies argument i to the front of a buffer, and returns its length; 0 where there is none, or it does not fit.
-fn argument(rt: &impl Env, i: usize, word: &mut [u8]) -> usize {
-    match rt.arg(i, word) {
-        Ok(n) => n,
-        Err(_) => 0,
-    }
+// What is wrong with a feature record.
+#[derive(Clone, Copy)]
+pub(crate) enum RecordError {
+    Length,
+    Character(char),
+    IoCapabilities(u8),
+    UseOutOfBand(u8),
+    KeySize(u8),
 }
 
-// Whether there is an argument i, of any length.
-fn has_argument(rt: &impl Env, i: usize) -> bool {
-    let mut word = [0u8; WORD];
-    match rt.arg(i, &mut word) {
-        Ok(_) => true,
-        Err(FillError::TooLong) => true,
-        Err(FillError::NotPresent) => false,
-    }
-}
-
-// The number of arguments, that of the program's name among them.
-fn argument_count(rt: &impl Env) -> usize {
-    for i in 0..usize::MAX {
-        if !has_argument(rt, i) {
-            return i;
+impl From<FromHexError> for RecordError {
+    fn from(e: FromHexError) -> RecordError {
+        match e {
+            FromHexError::InvalidHexCharacter { c, .. } => RecordError::Character(c),
+            _ => RecordError::Length,
         }
     }
-    usize::MAX
 }
 
-// Whether argument i is --late.
-fn is_late(rt: &impl Env, i: usize) -> bool {
-    let mut word = [0u8; WORD];
-    let n = argument(rt, i, &mut word);
-    same(part(&word, 0, n), b"--late")
-}
-
-// The place of --late among the arguments; 0 where it is not there.
-pub(crate) fn late_place(rt: &impl Env) -> usize {
-    if is_late(rt, 1) {
-        return 1;
-    }
-    if is_late(rt, 2) {
-        return 2;
-    }
-    if is_late(rt, 3) {
-        return 3;
-    }
-    0
-}
-
-// The places of the first and the second argument beside --late.
-fn first_place(late: usize) -> usize {
-    if late == 1 {
-        return 2;
-    }
-    1
-}
-
-fn second_place(late: usize) -> usize {
-    if late == 0 {
-        return 2;
-    }
-    if late == 3 {
-        return 2;
-    }
-    3
-}
-
-// Places up to the last argument, that of --late left out.
-fn places(rt: &impl Env, late: usize) -> usize {
-    let count = argument_count(rt);
-    if late == 0 {
-        return count;
-    }
-    if count == 0 {
-        return 0;
-    }
-    count - 1
-}
-
-// The value of a hexadecimal digit; 16 where it is none.
-fn digit(c: u8) -> u8 {
-    match c {
-        b'0'..=b'9' => c - b'0',
-        b'a'..=b'f' => c - b'a' + 10,
-        b'A'..=b'F' => c - b'A' + 10,
-        _ => 16,
-    }
-}
-
-fn octet_of(high: u8, low: u8) -> u8 {
-    if high < 16 {
-        if low < 16 {
-            return high * 16 + low;
+impl fmt::Display for RecordError {
+    fn fmt<W: fmt::Write>(&self, f: &mut fmt::Formatter<W>) -> fmt::Result {
+        match *self {
+            RecordError::Length => write!(
+                f,
+                "does not have 12 characters. Right: two digits each for I/O, OOB, AuthReq, key size, \
+                 initiator keys, responder keys."
+            ),
+            RecordError::Character(c) => write!(
+                f,
+                "has the character '{}'. Right: hexadecimal digits alone.",
+                printable(c)
+            ),
+            RecordError::IoCapabilities(io) => write!(f, "has I/O {io}. Right: 0 to 4."),
+            RecordError::UseOutOfBand(oob) => write!(f, "has OOB {oob}. Right: 0 or 1."),
+            RecordError::KeySize(size) => {
+                write!(
+                    f,
+                    "has key size {size}. Right: 7 to 16, in digits 07 to 10."
+                )
+            }
         }
     }
-    0
 }
 
-// The place of the first character that is no hexadecimal digit; the length where all are.
-fn no_digit(text: &[u8]) -> usize {
-    for i in 0..text.len() {
-        if digit(text[i]) == 16 {
-            return i;
+// What is wrong with the arguments.
+#[derive(Drop)]
+pub(crate) enum ArgumentError {
+    Nothing,
+    TooMany,
+    NoScene(Word),
+    Record(Role, RecordError),
+    // the head's record names an initiator key that the terminal's lacks
+    NoFairStart(&'static str),
+}
+
+const RIGHT: &str = "Right: pair [--late] SCENE, of clerk, bonded, passkey, typed, oob, plain; \
+                     or pair [--late] TERMINAL HEAD, each 12 hexadecimal digits.";
+
+impl fmt::Display for ArgumentError {
+    fn fmt<W: fmt::Write>(&self, f: &mut fmt::Formatter<W>) -> fmt::Result {
+        match self {
+            ArgumentError::Nothing => write!(f, "no scene and no records are given. {RIGHT}"),
+            ArgumentError::TooMany => write!(f, "there are too many arguments. {RIGHT}"),
+            ArgumentError::NoScene(name) if name.is_empty() => {
+                write!(f, "there is no such scene. {RIGHT}")
+            }
+            ArgumentError::NoScene(name) => {
+                write!(f, "there is no scene {}. {RIGHT}", Quoted(name))
+            }
+            ArgumentError::Record(role, e) => write!(f, "the {}'s record {e}", end_name(*role)),
+            ArgumentError::NoFairStart(key) => write!(
+                f,
+                "the head's record names the initiator key {key}, which the terminal's lacks: \
+                 no fair start. Right: both name it, or the head's does not."
+            ),
         }
     }
-    text.len()
 }
 
-fn put_digits(text: &[u8], s: &mut [u8], place: usize) -> usize {
-    let mut at = place;
-    for i in 0..6 {
-        let high = digit(octet(text, 2 * i));
-        let low = digit(octet(text, 2 * i + 1));
-        at = put(s, at, octet_of(high, low));
-    }
-    at
+// The digits of the two records of a scene.
+fn scene(name: &[u8]) -> Option<Ends<&'static str>> {
+    let (terminal, head) = match name {
+        // no common wish to bond, and the request names the terminal's identity key
+        b"clerk" => ("030001100303", "030000100003"),
+        b"bonded" => ("030001100303", "030001100303"),
+        b"passkey" => ("000005100303", "020005100303"),
+        b"typed" => ("020005100303", "020005100303"),
+        b"oob" => ("030101100303", "030101100303"),
+        b"plain" => ("030000100000", "030000100000"),
+        _ => return None,
+    };
+    Some(Ends { terminal, head })
 }
 
-fn wrong_record(rt: &impl Print, role: u8) -> io::Result<()> {
-    say(rt, b"pair: the ")?;
-    end(rt, role)?;
-    say(rt, b"'s record ")
+// The octets of a record.
+fn read_digits(role: Role, text: &[u8]) -> Result<[u8; 6], ArgumentError> {
+    <[u8; 6]>::from_hex(text).map_err(|e| ArgumentError::Record(role, RecordError::from(e)))
 }
 
-// Reads an end's record, of 12 digits.
-fn read_record(
-    rt: &impl Print,
-    role: u8,
-    text: &[u8],
-    records: &mut [u8],
-    place: usize,
-) -> io::Result<bool> {
-    if text.len() != 12 {
-        wrong_record(rt, role)?;
-        say(rt, b"does not have 12 characters. ")?;
-        say(
-            rt,
-            b"Right: two digits each for I/O, OOB, AuthReq, key size, initiator keys, responder keys.\n",
-        )?;
-        return Ok(false);
-    }
-    let at = no_digit(text);
-    if at < 12 {
-        wrong_record(rt, role)?;
-        say(rt, b"has the character ")?;
-        quoted(rt, part(text, at, 1))?;
-        say(rt, b". Right: hexadecimal digits alone.\n")?;
-        return Ok(false);
-    }
-    put_digits(text, records, place);
-    Ok(true)
+// The features of a record, or what it has that is refused.
+fn decode(octets: [u8; 6]) -> Result<PairingFeatures, RecordError> {
+    PairingFeatures::decode(&octets).map_err(|_| {
+        let [io, oob, _, size, _, _] = octets;
+        if IoCapabilities::try_from(io).is_err() {
+            RecordError::IoCapabilities(io)
+        } else if UseOutOfBand::try_from(oob).is_err() {
+            RecordError::UseOutOfBand(oob)
+        } else {
+            RecordError::KeySize(size)
+        }
+    })
 }
 
-// What a record has that is refused.
-fn refused(rt: &impl Print, role: u8, features: &[u8]) -> io::Result<()> {
-    wrong_record(rt, role)?;
-    if 4 < octet(features, 0) {
-        say(rt, b"has I/O ")?;
-        small(rt, octet(features, 0))?;
-        say(rt, b". Right: 0 to 4.\n")
-    } else if 1 < octet(features, 1) {
-        say(rt, b"has OOB ")?;
-        small(rt, octet(features, 1))?;
-        say(rt, b". Right: 0 or 1.\n")
-    } else {
-        say(rt, b"has key size ")?;
-        small(rt, octet(features, 3))?;
-        say(rt, b". Right: 7 to 16, in digits 07 to 10.\n")
-    }
-}
-
-// Whether an end's record is read as features.
-fn is_features(rt: &impl Print, role: u8, records: &[u8]) -> io::Result<bool> {
-    let mut fields = [0u8; 6];
-    let features = record(role, records);
-    if read_features(features, &mut fields).is_ok() {
-        return Ok(true);
-    }
-    refused(rt, role, features)?;
-    Ok(false)
-}
-
-// The head's record names an initiator key that the terminal's lacks.
-fn no_fair_start(rt: &impl Print, key: &[u8]) -> io::Result<()> {
-    say(rt, b"pair: the head's record names the initiator key ")?;
-    say(rt, key)?;
-    say(rt, b", which the terminal's lacks: no fair start. ")?;
-    say(rt, b"Right: both name it, or the head's does not.\n")
+fn read_features(role: Role, octets: [u8; 6]) -> Result<PairingFeatures, ArgumentError> {
+    decode(octets).map_err(|e| ArgumentError::Record(role, e))
 }
 
 // Whether a fair link may start so: the head's record names no initiator key that the terminal's lacks.
-fn is_fair(rt: &impl Print, records: &[u8]) -> io::Result<bool> {
-    let terminal = KeyDistributionFlags(octet(records, 4));
-    let head = KeyDistributionFlags(octet(records, 10));
-    if head.encryption_key() {
-        if !terminal.encryption_key() {
-            no_fair_start(rt, b"EncKey")?;
-            return Ok(false);
-        }
+fn check_fair(records: Ends<PairingFeatures>) -> Result<(), ArgumentError> {
+    let terminal = records.terminal.initiator_key_distribution;
+    let head = records.head.initiator_key_distribution;
+    if head.encryption_key() && !terminal.encryption_key() {
+        return Err(ArgumentError::NoFairStart("EncKey"));
     }
-    if head.identity_key() {
-        if !terminal.identity_key() {
-            no_fair_start(rt, b"IdKey")?;
-            return Ok(false);
-        }
+    if head.identity_key() && !terminal.identity_key() {
+        return Err(ArgumentError::NoFairStart("IdKey"));
     }
-    Ok(true)
+    Ok(())
 }
 
 // Reads both records.
-fn read_records(
-    rt: &impl Print,
-    terminal: &[u8],
-    head: &[u8],
-    records: &mut [u8],
-) -> io::Result<bool> {
-    if !read_record(rt, TERMINAL, terminal, records, 0)? {
-        return Ok(false);
-    }
-    if !read_record(rt, HEAD, head, records, 6)? {
-        return Ok(false);
-    }
-    if !is_features(rt, TERMINAL, records)? {
-        return Ok(false);
-    }
-    if !is_features(rt, HEAD, records)? {
-        return Ok(false);
-    }
-    is_fair(rt, records)
+fn read_records(terminal: &[u8], head: &[u8]) -> Result<Ends<PairingFeatures>, ArgumentError> {
+    let terminal = read_digits(Role::Central, terminal)?;
+    let head = read_digits(Role::Peripheral, head)?;
+    let records = Ends {
+        terminal: read_features(Role::Central, terminal)?,
+        head: read_features(Role::Peripheral, head)?,
+    };
+    check_fair(records)?;
+    Ok(records)
 }
 
-// There is no scene of this name. A name over 64 characters is read as empty.
-fn no_scene(rt: &impl Print, name: &[u8]) -> io::Result<()> {
-    if name.len() == 0 {
-        say(rt, b"pair: there is no such scene.")?;
-    } else {
-        say(rt, b"pair: there is no scene ")?;
-        quoted(rt, name)?;
-        say(rt, b".")?;
+fn read_scene(name: &[u8]) -> Result<Ends<PairingFeatures>, ArgumentError> {
+    match scene(name) {
+        Some(digits) => read_records(digits.terminal.as_bytes(), digits.head.as_bytes()),
+        None => Err(ArgumentError::NoScene(Word::try_from(name).unwrap_or_default())),
     }
-    right(rt)
 }
 
-// The records of a scene.
-fn read_scene(rt: &impl Print, name: &[u8], records: &mut [u8]) -> io::Result<bool> {
-    // no common wish to bond, and the request names the terminal's identity key
-    if same(name, b"clerk") {
-        return read_records(rt, b"030001100303", b"030000100003", records);
-    }
-    if same(name, b"bonded") {
-        return read_records(rt, b"030001100303", b"030001100303", records);
-    }
-    if same(name, b"passkey") {
-        return read_records(rt, b"000005100303", b"020005100303", records);
-    }
-    if same(name, b"typed") {
-        return read_records(rt, b"020005100303", b"020005100303", records);
-    }
-    if same(name, b"oob") {
-        return read_records(rt, b"030101100303", b"030101100303", records);
-    }
-    if same(name, b"plain") {
-        return read_records(rt, b"030000100000", b"030000100000", records);
-    }
-    no_scene(rt, name)?;
-    Ok(false)
-}
-
-// Reads the feature records that the arguments name, the terminal's first, or says what is wrong.
-pub(crate) fn read_arguments(
-    rt: &(impl Env + Print),
-    late: usize,
-    records: &mut [u8],
-) -> io::Result<bool> {
-    let mut first = [0u8; WORD];
-    let mut second = [0u8; WORD];
-    let n = argument(rt, first_place(late), &mut first);
-    let m = argument(rt, second_place(late), &mut second);
-    match places(rt, late) {
-        0 | 1 => {
-            say(rt, b"pair: no scene and no records are given.")?;
-            right(rt)?;
-            Ok(false)
+// The argument at an index, if there is one.
+fn argument(rt: &impl Env, index: usize) -> Option<Word> {
+    let mut octets = [0; LONGEST];
+    match rt.arg(index, &mut octets) {
+        Ok(size) => {
+            let mut word = Word::from(octets);
+            word.truncate(size);
+            Some(word)
         }
-        2 => read_scene(rt, part(&first, 0, n), records),
-        3 => read_records(rt, part(&first, 0, n), part(&second, 0, m), records),
-        _ => {
-            say(rt, b"pair: there are too many arguments.")?;
-            right(rt)?;
-            Ok(false)
+        Err(FillError::TooLong) => Some(Word::new()),
+        Err(FillError::NotPresent) => None,
+    }
+}
+
+// Reads the feature records that the arguments name, or says what is wrong.
+pub(crate) fn read_arguments(rt: &impl Env) -> Result<Arguments, ArgumentError> {
+    let mut is_late = false;
+    let mut words = ArrayVec::<Word, 2>::new();
+    // by index, since std's iterator over the arguments allocates; a third word is too many
+    for word in (1..=4).map_while(|index| argument(rt, index)) {
+        if !is_late && word.as_slice() == b"--late".as_slice() {
+            is_late = true;
+        } else {
+            words.try_push(word).map_err(|_| ArgumentError::TooMany)?;
         }
     }
+    let records = match words.as_slice() {
+        [] => return Err(ArgumentError::Nothing),
+        [name] => read_scene(name)?,
+        [terminal, head, ..] => read_records(terminal, head)?,
+    };
+    Ok(Arguments { records, is_late })
 }

@@ -1,7 +1,7 @@
 // pairing/mod.rs: dispatch. One step of a machine of either role, on answers and a list that are lent.
 #![tactic(auto)]
 
-ghost use Rattle.std.specs.Prelude.{◌≡◌};
+ghost use Rattle.std.specs.Prelude.{◌≡◌, OnErr};
 ghost use Rattle.protocol.specs.declared.Outcome.TheVariants as outcome;
 ghost use Rattle.protocol.specs.Step.{step, handle_input_by_role, is_known};
 ghost use Rattle.ops.specs.Run.{run};
@@ -9,6 +9,7 @@ ghost use Rattle.handlers.specs.Outcomes.{ran_entered};
 ghost use Rattle.pairing.specs.Report.{step_of, reported};
 
 use answer::Stop;
+use handlers::input::Received;
 use host::{LONGEST, Trace};
 use machine::{Input, Machine, Role};
 use ops::Ops;
@@ -46,15 +47,18 @@ fn handle_input(
 ) -> Result<(), Stop>
     ensures ran { ran_entered ops.new.trace machine.new result ≡ run ops.old.answers.now (handle_input_by_role role machine.old input payload.now) ops.old.trace }
     ensures answers { ops.new.answers ≡ ops.old.answers }
+    ensures kept { OnErr result (machine.new ≡ machine.old) }
 {
+    let received = Received { input, payload };
     match role {
-        Role::Central => legacy_central::handle_input(ops, machine, input, payload),
-        Role::Peripheral => legacy_peripheral::handle_input(ops, machine, input, payload),
+        Role::Central => legacy_central::handle_input(ops, machine, received),
+        Role::Peripheral => legacy_peripheral::handle_input(ops, machine, received),
     }
 }
 
 // What an input gave, for the caller. A step that is refused or wants gives the machine back as it was; a refused one
 // leaves the list as it was.
+// current beside next: the clause speaks of the machine that was given, whatever came of the run.
 fn report(
     trace: &Trace,
     next: Machine,
@@ -78,8 +82,10 @@ fn report(
     }
 }
 
-// Refused by 1: the list is shorter than the longest step's calls; by 2: no command has this code; by 3: an answer
-// reached is none to its call.
+// Payload and answers apart, as document 01's step has them.
+// Refused by 1, ShortList: the list is shorter than the longest step's calls; by 2, UnknownCommand: no command has this
+// code; by 3, ForbiddenAnswer: an answer reached is none to its call.
+#[tactic(auto, using(protocol::proofs::StepLaws::refused_short, protocol::proofs::StepLaws::refused_code, crate::proofs::Stepping::reported_step))]
 pub fn step(
     role: Role,
     machine: Machine,
@@ -99,6 +105,5 @@ pub fn step(
     let mut ops = Ops::new(answers);
     let mut next = machine;
     let ran = handle_input(role, &mut ops, &mut next, input, payload);
-    let Ops { trace, answers: _ } = ops;
-    report(&trace, next, ran, machine, list)
+    report(&ops.trace, next, ran, machine, list)
 }

@@ -5,7 +5,7 @@
 ghost use Rattle.std.specs.Prelude.{◌≡◌, OnErr};
 ghost use Rattle.protocol.specs.Handlers.{names_encryption_key, send_encryption_key, with_keys};
 ghost use Rattle.protocol.specs.LegacyPeripheral.{confirm_value, send_sconfirm, handle_pairing_random};
-ghost use Rattle.protocol.specs.LegacyPeripheral.{initiator_keys, responder_keys, with_mitm, new_legacy, response_features, begin_method, handle_pairing_request};
+ghost use Rattle.protocol.specs.LegacyPeripheral.{responder_keys, with_mitm, new_legacy, response_features, begin_method, handle_pairing_request};
 ghost use Rattle.ops.specs.Run.{run};
 ghost use Rattle.handlers.specs.Outcomes.{ran_machine, ran_data, ran_nonce};
 
@@ -28,6 +28,7 @@ use types::{
 use util::{PairingMethod, PassKeyEntryAction, legacy_pairing_method};
 
 // c1 of a nonce: the peer is the initiator.
+// In each role's own file, as in the Rust.
 #[tactic(auto, unfolding(protocol::specs::LegacyPeripheral::confirm_value))]
 fn confirm_value(machine: &Machine, nonce: Nonce) -> Confirm
     ensures { result ≡ confirm_value machine.now.confirm_data machine.now.pairing_data nonce }
@@ -80,13 +81,14 @@ pub fn handle_pairing_request(
     ensures ran { ran_machine ops.new.trace machine.new result ≡ run ops.old.answers.now (handle_pairing_request machine.old.pairing_data payload.now) ops.old.trace }
     ensures answers { ops.new.answers ≡ ops.old.answers }
 {
-    // A failure to send the event does not matter.
+    // A failure to send the event does not matter. By a match of its own: with `attempt` of `phases` the proof did not close.
     if ops.find_bond()?
         && let Err(Halt::Stop(stop)) = ops.try_send_connection_event(ConnectionEvent::BondLost)
     {
         return Err(Halt::Stop(stop));
     }
     let peer_features = read_features(payload)?;
+    // By a copy: with `octets_at` the proof did not close.
     let mut request = [0; 6];
     request.copy_from_slice(payload);
     let preq = command_octets(Command::PairingRequest, request);
@@ -105,32 +107,17 @@ pub fn handle_pairing_request(
     begin_method(ops, machine, preq, pres)
 }
 
-// What the request names is added to what the local features name.
-#[tactic(auto, unfolding(protocol::specs::LegacyPeripheral::initiator_keys))]
-fn initiator_keys(local: KeyDistributionFlags, peer: KeyDistributionFlags) -> KeyDistributionFlags
-    ensures { result ≡ initiator_keys local peer }
-{
-    let mut keys = local;
-    if peer.identity_key() {
-        keys = keys.set_identity_key();
-    }
-    if peer.encryption_key() {
-        keys = keys.set_encryption_key();
-    }
-    keys
-}
-
-// .. of the identity key only where `offered`.
+// What the request names is added to what the local features name, the identity key where `identity`.
 #[tactic(auto, unfolding(protocol::specs::LegacyPeripheral::responder_keys))]
-fn responder_keys(
+fn agreed_keys(
     local: KeyDistributionFlags,
     peer: KeyDistributionFlags,
-    offered: bool,
+    identity: bool,
 ) -> KeyDistributionFlags
-    ensures { result ≡ responder_keys local peer offered }
+    ensures { result ≡ responder_keys local peer identity }
 {
     let mut keys = local;
-    if offered {
+    if identity {
         keys = keys.set_identity_key();
     }
     if peer.encryption_key() {
@@ -143,12 +130,7 @@ fn responder_keys(
 fn authentication(bonding: bool, io: IoCapabilities) -> AuthReq
     ensures { result ≡ with_mitm (new_legacy bonding) io }
 {
-    let flag = if bonding {
-        BondingFlag::Bonding
-    } else {
-        BondingFlag::NoBonding
-    };
-    let auth_req = AuthReq::new_legacy(flag);
+    let auth_req = AuthReq::new_legacy(BondingFlag::from(bonding));
     match io {
         IoCapabilities::NoInputNoOutput => auth_req,
         _ => auth_req.with_mitm(),
@@ -156,7 +138,7 @@ fn authentication(bonding: bool, io: IoCapabilities) -> AuthReq
 }
 
 // The local features as the response has them.
-#[tactic(auto, unfolding(protocol::specs::LegacyPeripheral::response_features))]
+#[tactic(auto, unfolding(protocol::specs::LegacyPeripheral::response_features, protocol::specs::LegacyPeripheral::initiator_keys, protocol::specs::LegacyPeripheral::responder_keys))]
 fn response_features(
     local: PairingFeatures,
     peer: PairingFeatures,
@@ -173,11 +155,12 @@ fn response_features(
             local.use_oob
         },
         security_properties: authentication(bonding, local.io_capabilities),
-        initiator_key_distribution: initiator_keys(
+        initiator_key_distribution: agreed_keys(
             local.initiator_key_distribution,
             peer.initiator_key_distribution,
+            peer.initiator_key_distribution.identity_key(),
         ),
-        responder_key_distribution: responder_keys(
+        responder_key_distribution: agreed_keys(
             local.responder_key_distribution,
             peer.responder_key_distribution,
             offered,
@@ -187,6 +170,7 @@ fn response_features(
 }
 
 // The method that was chosen begins.
+// preq and pres apart: the definition of this name and c1 take them so.
 #[tactic(auto, unfolding(protocol::specs::LegacyPeripheral::begin_method))]
 fn begin_method(
     ops: &mut Ops<'_>,
@@ -196,20 +180,25 @@ fn begin_method(
 ) -> Result<(), Halt>
     ensures ran { ran_machine ops.new.trace machine.new result ≡ run ops.old.answers.now (begin_method preq pres machine.old.pairing_data machine.old.pairing_data.pairing_method) ops.old.trace }
     ensures answers { ops.new.answers ≡ ops.old.answers }
+    ensures kept { OnErr result (machine.new ≡ machine.old) }
 {
     match machine.pairing_data.pairing_method {
         PairingMethod::OutOfBand => request_oob_data(ops, machine, preq, pres),
-        PairingMethod::PassKeyEntry { peripheral, .. } => match peripheral {
-            PassKeyEntryAction::Display => {
-                let passkey = ops.draw_passkey()?;
-                ops.try_send_connection_event(ConnectionEvent::PassKeyDisplay(passkey))?;
-                let tk = u128::from(passkey.value());
-                machine.confirm_data = confirm_phase_data(tk, preq, pres);
-                machine.enters(Phase::WaitingPairingConfirm);
-                Ok(())
-            }
-            PassKeyEntryAction::Input => request_pass_key(ops, machine, preq, pres),
-        },
+        PairingMethod::PassKeyEntry {
+            peripheral: PassKeyEntryAction::Display,
+            ..
+        } => {
+            let passkey = ops.draw_passkey()?;
+            ops.try_send_connection_event(ConnectionEvent::PassKeyDisplay(passkey))?;
+            let tk = u128::from(passkey.value());
+            machine.confirm_data = confirm_phase_data(tk, preq, pres);
+            machine.enters(Phase::WaitingPairingConfirm);
+            Ok(())
+        }
+        PairingMethod::PassKeyEntry {
+            peripheral: PassKeyEntryAction::Input,
+            ..
+        } => request_pass_key(ops, machine, preq, pres),
         PairingMethod::JustWorks => {
             machine.confirm_data = confirm_phase_data(0, preq, pres);
             machine.enters(Phase::WaitingPairingConfirm);

@@ -12,15 +12,16 @@ ghost use Rattle.phases.specs.Phases.{request_oob_data, request_pass_key, attemp
 use answer::Stop;
 use bond::Error;
 use crypto::{Confirm, IdentityResolvingKey, LongTermKey, Nonce};
-use handlers::input::{is_command, other_input};
+use handlers::input::{Received, other_input};
 use handlers::keys::{negotiated_key_size, with_irk};
 use handlers::payload::read_payload_word;
 use host::ConnectionEvent;
-use machine::{ConfirmPhaseData, Input, Machine, Phase};
+use machine::{ConfirmPhaseData, Machine, Phase};
 use ops::{Halt, Ops};
 use types::Command;
 
 // A temporary key and the two commands, and no nonce yet.
+// preq and pres apart: the definition of this name and c1 take them so.
 pub fn confirm_phase_data(tk: u128, preq: [u8; 7], pres: [u8; 7]) -> ConfirmPhaseData
     ensures { result ≡ confirm_data tk preq pres }
 {
@@ -58,10 +59,9 @@ pub fn enter(ops: &mut Ops<'_>, machine: &Machine) -> Result<(), Stop>
                 return Ok(());
             };
             let security_level = information.security_level;
-            let mut bond = None;
-            if machine.pairing_data.want_bonding() {
+            let bond = machine.pairing_data.want_bonding().then_some(information);
+            if let Some(information) = bond {
                 attempt(ops.try_update_bond_information(information))?;
-                bond = Some(information);
             }
             attempt(ops.try_send_connection_event(ConnectionEvent::PairingComplete {
                 security_level,
@@ -110,6 +110,8 @@ pub fn store_confirm_bytes(machine: &mut Machine, payload: &[u8]) -> Result<(), 
     Ok(())
 }
 
+// preq and pres apart: the definition of this name and c1 take them so.
+// Two functions on purpose: each asks the host for another value, and awaits it in another state.
 pub fn request_oob_data(
     ops: &mut Ops<'_>,
     machine: &mut Machine,
@@ -126,6 +128,7 @@ pub fn request_oob_data(
     Ok(())
 }
 
+// preq and pres apart: the definition of this name and c1 take them so.
 pub fn request_pass_key(
     ops: &mut Ops<'_>,
     machine: &mut Machine,
@@ -188,12 +191,12 @@ fn handle_identity_information(machine: &mut Machine, payload: &[u8]) -> Result<
 }
 
 // The state that awaits the peer's identity key.
-pub fn waiting_identity(machine: &mut Machine, input: Input, payload: &[u8]) -> Result<(), Error>
-    ensures ran { ret (tried machine.new result) ≡ on_command command.IdentityInformation input (handle_identity_information machine.old.pairing_data payload.now) (other_input machine.old payload.now input) }
+pub fn waiting_identity(machine: &mut Machine, received: Received<'_>) -> Result<(), Error>
+    ensures ran { ret (tried machine.new result) ≡ on_command command.IdentityInformation received.entry.input (handle_identity_information machine.old.pairing_data received.entry.payload.now) (other_input machine.old received.entry.payload.now received.entry.input) }
     ensures kept { OnErr result (machine.new ≡ machine.old) }
 {
-    if is_command(input, Command::IdentityInformation) {
-        return handle_identity_information(machine, payload);
+    if received.is_command(Command::IdentityInformation) {
+        return handle_identity_information(machine, received.payload);
     }
-    other_input(machine, input, payload)
+    other_input(machine, received)
 }

@@ -35,6 +35,7 @@ pub enum Outcome {
     Refused(Refusal),
 }
 
+// No Result: a refused step gives the machine and both counts, too.
 #[derive(Clone, Copy, PartialEq, Eq)]
 pub struct Stepped {
     pub outcome: Outcome,

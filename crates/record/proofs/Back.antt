@@ -2,24 +2,28 @@
 use borrow.Author.Rules.{rules}
 use mathlib.Core.Path.{◌≡◌}
 use Prim.Native.Nat.{ℕ, ◌≤◌}
-use Rattle.std.specs.Prelude.{Option, is_some}
+use Rattle.std.specs.Prelude.{true, List, Option, Some, is_some}
 use Rattle.octets.specs.Answer.{accepted}
 use Rattle.types.specs.Types.{reason_code, reason_of, feature_octets}
 use Rattle.types.specs.declared.types.Reason.{Reason}
 use Rattle.types.specs.declared.types.PairingFeatures.{PairingFeatures}
 use Rattle.types.proofs.Codes.{io_back, oob_back}
 use Rattle.util.specs.declared.util.PairingMethod.{PairingMethod}
-use Rattle.bond.specs.Bond.{flag_code, bond_or_zeros}
+use Rattle.bond.specs.Bond.{flag_code, flag_of, bond_of, bond_or_zeros}
 use Rattle.bond.specs.declared.BondInformation.{BondInformation}
 use Rattle.bond.proofs.Back.{OptionBondValued, bond_back}
 use Rattle.machine.specs.declared.Role.{Role}
 use Rattle.machine.specs.declared.Phase.{Phase}
 use Rattle.machine.proofs.Canonical.{OfRole}
-use Rattle.record.specs.Record.{phase_octets, confirm_in, received_in, method_code, reason_at, error_of, pass_key_of, phase_of, features_at, method_of, option_bond_of}
+use Rattle.record.specs.Record.{phase_octets, confirm_in, received_in, method_code, reason_at, error_of, pass_key_of, phase_of, features_at, method_of, bond_answer, option_bond_of}
 
 -- the reasons from 0x01 to 0x10 are those of a Pairing Failed
 pub reason_read : (v : ℕ) → 1 ≤ v → v ≤ 16 → reason_at v ≡ accepted (reason_of v)
 reason_read v a b = search rules
+
+-- where octet 109 is yes, a bond is read
+pub present_read : (v : ℕ) (s : List ℕ) → flag_of v ≡ Some true → option_bond_of v s ≡ bond_answer (bond_of s)
+present_read v s e = search rules
 
 -- ---- piece by piece
 

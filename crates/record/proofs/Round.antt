@@ -12,7 +12,6 @@ use Rattle.std.specs.Prelude.{bytes_eq}
 use Rattle.std.proofs.lemmas.Slice.Eq.{bytes_eq-Decides}
 use Rattle.octets.specs.Answer.{Answer, refused, accepted, and_then}
 use Rattle.octets.proofs.Octets.{word_back}
-use Rattle.types.proofs.Tables.{refused≢accepted}
 use Rattle.bond.proofs.Back.{AddressValued, OptionBondValued, address_back}
 use Rattle.machine.specs.Machine.{kept_by}
 use Rattle.machine.specs.declared.Role.{Role}
@@ -89,12 +88,12 @@ read_back r m c v =
 
 -- an operation that accepts has accepted what it worked on
 after : {A B C : Type 0} (x : Answer A) (f : A → Answer B) {b : B} → and_then x f ≡ accepted b → ((a : A) → x ≡ accepted a → f a ≡ accepted b → C) → C
-after (refused n) f e k = absurd (refused≢accepted e)
+after (refused n) f e k = cc
 after (accepted a) f e k = k a refl e
 
 tested : {A : Type 0} (t : Bool) (x : Answer A) (n : ℕ) {a : A} → cond t x (refused n) ≡ accepted a → (t ≡ true) × (x ≡ accepted a)
 tested true x n e = (refl, e)
-tested false x n e = absurd (refused≢accepted e)
+tested false x n e = cc
 
 -- the machine that was read has a phase of the role and what that keeps, and the record is its own
 pub record WasRead (r : Role) (l : List ℕ) (m : Machine) : Type 0 where

@@ -7,7 +7,7 @@ use Rattle.octets.specs.Octets.{octets_of}
 use Rattle.octets.proofs.Octets.{word_length}
 use Rattle.types.specs.Types.{feature_octets}
 use Rattle.types.specs.declared.types.PairingFeatures.{PairingFeatures}
-use Rattle.bond.specs.Bond.{bd_addr_octets, address_octets, bond_octets, bond_or_zeros}
+use Rattle.bond.specs.Bond.{bd_addr_octets, address_octets, bond_octets, bond_or_zeros, option_bond_octets}
 use Rattle.bond.specs.declared.Address.{Address}
 use Rattle.bond.specs.declared.BondInformation.{BondInformation}
 use Rattle.machine.specs.declared.Phase.{Phase}
@@ -25,6 +25,9 @@ address_length a = refl
 pub bond_length : (o : Option BondInformation) → length (bond_or_zeros o) ≡ 51
 unfolding bond_octets octets_of address_octets bd_addr_octets
 bond_length o = search rules
+
+pub option_bond_length : (o : Option BondInformation) → length (option_bond_octets o) ≡ 52
+option_bond_length o = rw (bond_length o)
 
 pub features_length : (f : PairingFeatures) → length (feature_octets f) ≡ 6
 features_length f = refl

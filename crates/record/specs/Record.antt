@@ -8,7 +8,6 @@ use Rattle.types.specs.Types.{reasons, oob_of, feature_octets, features_with}
 use Rattle.types.specs.declared.types.Reason.{Reason}
 use Rattle.types.specs.declared.types.Reason.TheVariants as reason
 use Rattle.types.specs.declared.types.PairingFeatures.{PairingFeatures}
-use Rattle.types.specs.declared.capabilities.IoCapabilities.TheVariants.{NoInputNoOutput}
 use Rattle.util.specs.Method.{CENTRAL_DISPLAYS, PERIPHERAL_DISPLAYS, BOTH_INPUT}
 use Rattle.util.specs.declared.util.PassKeyEntryAction.TheVariants.{Display, Input}
 use Rattle.util.specs.declared.util.PairingMethod.{PairingMethod}
@@ -17,7 +16,7 @@ use Rattle.crypto.specs.declared.crypto.Confirm.{Confirm}
 use Rattle.bond.specs.Bond.{address_octets, address_of, failed_body, flag_code, bond_of, option_bond_octets}
 use Rattle.bond.specs.declared.Error.TheVariants.{Security, InvalidState, InvalidValue, OutOfMemory, Host}
 use Rattle.bond.specs.declared.BondInformation.{BondInformation}
-use Rattle.machine.specs.Machine.{kept_by, first_phase, new_data, new_machine}
+use Rattle.machine.specs.Machine.{kept_by, first_phase}
 use Rattle.machine.specs.declared.Role.{Role}
 use Rattle.machine.specs.declared.PairingData.{PairingData}
 use Rattle.machine.specs.declared.ConfirmPhaseData.{ConfirmPhaseData}
@@ -270,7 +269,3 @@ record_refusal error.Features = 22
 record_refusal error.Method = 23
 record_refusal error.Bond = 24
 record_refusal error.NotCanonical = 25
-
--- what a step line that is refused gives in a machine's place: a fresh head of no address
-unfoldable pub no_machine : Machine
-no_machine = new_machine (new_data (record { kind = 0; addr = record { low = 0; high = 0 } }) (record { kind = 0; addr = record { low = 0; high = 0 } }) NoInputNoOutput)

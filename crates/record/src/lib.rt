@@ -9,11 +9,11 @@ ghost use Rattle.record.specs.Record.{phase_octets, confirm_in, received_in, met
 ghost use Rattle.record.specs.Record.{record_refusal, octets_at, reason_at, error_of, pass_key_of, phase_at, features_at, method_of, option_bond_of};
 ghost use Rattle.record.specs.Record.{pairing_data_of, confirm_data_of, canonical, machine_of};
 
-use bond::{BondInformation, Error, encode_bond, read_address, read_bond, read_flag};
+use bond::{Address, BondInformation, Error, encode_option_bond, read_flag};
 use crypto::{Confirm, LongTermKey, Nonce};
 use machine::{ConfirmPhaseData, Machine, PairingData, Phase, Role};
 use octets::{octets_at, read_word, word_to_octets, write};
-use types::{AuthReq, IoCapabilities, KeyDistributionFlags, PairingFeatures, Reason, UseOutOfBand};
+use types::{PairingFeatures, Reason};
 use util::PairingMethod;
 use util::PassKeyEntryAction::{Display, Input};
 
@@ -45,6 +45,7 @@ impl From<RecordError> for u8 {
 }
 
 // Octets 0 to 3.
+// Four octets in a row for each phase: an enum of their numbers would say each phase twice.
 #[tactic(auto, unfolding(crate::specs::Record::phase_octets))]
 fn phase_octets(phase: Phase) -> [u8; 4]
     ensures { result ≡ phase_octets phase }
@@ -97,6 +98,7 @@ fn received_in(phase: Phase) -> u128
 }
 
 // Octet 108.
+// The numbers are the record's own, so no From of util's type.
 fn method_code(method: PairingMethod) -> u8
     ensures { result ≡ method_code method }
 {
@@ -144,12 +146,13 @@ pub fn machine_octets(machine: Machine) -> [u8; RECORD_SIZE]
     write(&mut octets, 89, &pairing.peer_address.encode());
     write(&mut octets, 96, &pairing.local_features.encode());
     write(&mut octets, 102, &pairing.peer_features.encode());
-    write(&mut octets, 108, &[method, u8::from(bond.is_some())]);
-    write(&mut octets, 110, &encode_bond(bond));
+    write(&mut octets, 108, &[method]);
+    write(&mut octets, 109, &encode_option_bond(bond));
     octets
 }
 
 // Writes the record over the first 161 octets, and says so; a shorter slice is left as it was, and false.
+// A bool: `Written` says by it whether the octets fit.
 pub fn write_machine(machine: Machine, record: &mut [u8]) -> bool
     ensures { Written «record».old 0 (machine_octets machine) result «record».new }
 {
@@ -157,6 +160,7 @@ pub fn write_machine(machine: Machine, record: &mut [u8]) -> bool
 }
 
 // The reason of a detail octet, all of them from 0 on.
+// Reason's own From takes every octet, as the Rust does; a record holds no other than these.
 #[tactic(auto, using(crate::proofs::Back::reason_read))]
 fn read_reason(detail: u8) -> Result<Reason, RecordError>
     ensures { answer_of record_refusal result ≡ reason_at detail }
@@ -169,6 +173,7 @@ fn read_reason(detail: u8) -> Result<Reason, RecordError>
 }
 
 // The error of a kind and a detail.
+// The kind is an octet of the record, which may hold any.
 #[tactic(auto, unfolding(crate::specs::Record::error_of))]
 fn read_error(kind: u8, detail: u8) -> Result<Phase, RecordError>
     ensures { answer_of record_refusal result ≡ error_of kind detail }
@@ -238,20 +243,11 @@ fn read_phase(role: Role, record: &[u8; RECORD_SIZE]) -> Result<Phase, RecordErr
 fn read_features(octets: [u8; 6]) -> Result<PairingFeatures, RecordError>
     ensures { answer_of record_refusal result ≡ features_at octets }
 {
-    let [io, oob, security, size, initiator, responder] = octets;
-    let io_capabilities = IoCapabilities::try_from(io).map_err(|_| RecordError::Features)?;
-    let use_oob = UseOutOfBand::try_from(oob).map_err(|_| RecordError::Features)?;
-    Ok(PairingFeatures {
-        io_capabilities,
-        use_oob,
-        security_properties: AuthReq(security),
-        maximum_encryption_key_size: size,
-        initiator_key_distribution: KeyDistributionFlags(initiator),
-        responder_key_distribution: KeyDistributionFlags(responder),
-    })
+    PairingFeatures::try_from(octets).map_err(|_| RecordError::Features)
 }
 
 // The method of octet 108.
+// No TryFrom of util's type, for the same reason as with `method_code`.
 fn read_method(code: u8) -> Result<PairingMethod, RecordError>
     ensures { answer_of record_refusal result ≡ method_of code }
 {
@@ -280,14 +276,16 @@ fn read_method(code: u8) -> Result<PairingMethod, RecordError>
 }
 
 // Octets 109 to 160: a bond is read only where it is present.
+#[tactic(auto, using(crate::proofs::Back::present_read))]
 fn read_option_bond(record: &[u8; RECORD_SIZE]) -> Result<Option<BondInformation>, RecordError>
     ensures { answer_of record_refusal result ≡ option_bond_of (get_or «record».now 109 0) (octets_at 51 110 «record».now) }
 {
-    match record[109] {
-        0 => Ok(None),
-        1 => Ok(Some(read_bond(record, 110).ok_or(RecordError::Bond)?)),
-        _ => Err(RecordError::Bond),
+    let present = read_flag(record[109]).ok_or(RecordError::Bond)?;
+    if !present {
+        return Ok(None);
     }
+    let bond = BondInformation::decode(octets_at(record, 110)).ok_or(RecordError::Bond)?;
+    Ok(Some(bond))
 }
 
 // Octets 82 to 160.
@@ -300,8 +298,8 @@ fn read_pairing_data(record: &[u8; RECORD_SIZE]) -> Result<PairingData, RecordEr
     let pairing_method = read_method(record[108])?;
     let bond_information = read_option_bond(record)?;
     Ok(PairingData {
-        local_address: read_address(record, 82),
-        peer_address: read_address(record, 89),
+        local_address: Address::from(octets_at(record, 82)),
+        peer_address: Address::from(octets_at(record, 89)),
         local_features,
         peer_features,
         pairing_method,

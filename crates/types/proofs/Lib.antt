@@ -1,4 +1,3 @@
 pub mod Codes
 pub mod Features
 pub mod Flags
-pub mod Tables

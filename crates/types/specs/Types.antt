@@ -148,6 +148,10 @@ oob_present Present = true
 
 -- ---- the bonding flag, the two low bits of AuthReq, 3.5.1
 
+abbrev pub bonding_flag : Bool → BondingFlag
+bonding_flag false = NoBonding
+bonding_flag true = Bonding
+
 abbrev pub bonding_code : BondingFlag → ℕ
 bonding_code NoBonding = 0
 bonding_code Bonding = 1
@@ -246,6 +250,16 @@ features_of s =
     and_then (oob_of (get_or s 1 0)) (λ oob.
     and_then (size_of (get_or s 3 0)) (λ size.
     accepted (features_with s io oob size)))))
+
+-- the same of six octets, with a key size of any value
+abbrev pub any_size_features_of : List ℕ → Answer PairingFeatures
+any_size_features_of s =
+    and_then (io_of (get_or s 0 0)) (λ io.
+    and_then (oob_of (get_or s 1 0)) (λ oob.
+    accepted (features_with s io oob (get_or s 3 0))))
+
+abbrev pub any_size_answer : Result PairingFeatures InvalidValue → Answer PairingFeatures
+any_size_answer r = answer_of (λ e. 5) r
 
 -- the number by which an error of reading refuses
 abbrev pub refusal_number : Error → ℕ

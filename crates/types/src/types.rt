@@ -1,10 +1,10 @@
 ghost use Rattle.std.specs.Prelude.{◌≡◌, eqb};
 ghost use Rattle.std.specs.Int.Bits.{bit_and};
 ghost use Rattle.types.specs.Types.{reason_code, reason_of, command_code, payload_size, command_of, command_answer};
-ghost use Rattle.types.specs.Types.{oob_code, oob_of, oob_answer, oob_present, bonding_code, bonding_of, flag, with_flag};
+ghost use Rattle.types.specs.Types.{oob_code, oob_of, oob_answer, oob_present, bonding_flag, bonding_code, bonding_of, flag, with_flag};
 ghost use Rattle.types.specs.Types.{mitm_flag, secure_connection_flag, key_press_flag, ct2_flag};
 ghost use Rattle.types.specs.Types.{encryption_key_flag, identity_key_flag, signing_key_flag, link_key_flag};
-ghost use Rattle.types.specs.Types.{feature_size, default_features, feature_octets, features_of, decoded_answer};
+ghost use Rattle.types.specs.Types.{feature_size, default_features, feature_octets, any_size_features_of, any_size_answer, features_of, decoded_answer};
 
 use crate::capabilities::IoCapabilities;
 use crate::codec;
@@ -221,10 +221,7 @@ impl From<UseOutOfBand> for bool {
     ghost from_gives = { λ oob present. present ≡ oob_present oob };
 
     fn from(val: UseOutOfBand) -> bool {
-        match val {
-            UseOutOfBand::NotPresent => false,
-            UseOutOfBand::Present => true,
-        }
+        val == UseOutOfBand::Present
     }
 }
 
@@ -235,6 +232,18 @@ pub enum BondingFlag {
     NoBonding = 0x00,
     // Bonding
     Bonding = 0x01,
+}
+
+impl From<bool> for BondingFlag {
+    ghost from_gives = { λ bonding flag. flag ≡ bonding_flag bonding };
+
+    fn from(bonding: bool) -> BondingFlag {
+        if bonding {
+            BondingFlag::Bonding
+        } else {
+            BondingFlag::NoBonding
+        }
+    }
 }
 
 impl From<BondingFlag> for u8 {
@@ -253,6 +262,7 @@ fn has(octet: u8, flag: u8) -> bool
 }
 
 // AuthReq octet ([Vol 3] Part H, Section 3.5.1).
+// No bitflags: each getter has the name that the Rust gives it, and the field may hold any octet.
 #[derive(Clone, Copy, PartialEq, Eq)]
 pub struct AuthReq(pub u8);
 
@@ -298,11 +308,7 @@ impl AuthReq {
     pub fn bond(self) -> BondingFlag
         ensures { result ≡ bonding_of self.0 }
     {
-        if (self.0 & AUTH_REQ_BONDING) == 0x01 {
-            BondingFlag::Bonding
-        } else {
-            BondingFlag::NoBonding
-        }
+        BondingFlag::from((self.0 & AUTH_REQ_BONDING) == 0x01)
     }
 
     // Man in the middle (MITM) protection requested
@@ -336,6 +342,7 @@ impl AuthReq {
 
 // Key Distribution Flags ([Vol 3] Part H, Section 3.6.1).
 // Each getter and setter is one line, under the name that the Rust gives it.
+// No bitflags, for the same reason as with `AuthReq`.
 #[derive(Clone, Copy, PartialEq, Eq)]
 pub struct KeyDistributionFlags(pub u8);
 
@@ -453,14 +460,25 @@ impl PairingFeatures {
         let &[io, oob, security, size, initiator, responder, ..] = source else {
             return Err(codec::Error::InsufficientSpace);
         };
-        let io_capabilities = IoCapabilities::try_from(io)?;
-        let use_oob = UseOutOfBand::try_from(oob)?;
+        let features = Self::try_from([io, oob, security, size, initiator, responder])?;
         if !matches!(size, ENCRYPTION_KEY_SIZE_MIN..=ENCRYPTION_KEY_SIZE_128_BITS) {
             return Err(codec::Error::InvalidValue);
         }
+        Ok(features)
+    }
+}
+
+// The features of six octets, of any key size: `decode` tests the size as well.
+impl TryFrom<[u8; 6]> for PairingFeatures {
+    type Error = InvalidValue;
+
+    ghost try_from_gives = { λ octets r. any_size_answer r ≡ any_size_features_of octets };
+
+    fn try_from(octets: [u8; 6]) -> Result<Self, InvalidValue> {
+        let [io, oob, security, size, initiator, responder] = octets;
         Ok(Self {
-            io_capabilities,
-            use_oob,
+            io_capabilities: IoCapabilities::try_from(io)?,
+            use_oob: UseOutOfBand::try_from(oob)?,
             security_properties: AuthReq(security),
             maximum_encryption_key_size: size,
             initiator_key_distribution: KeyDistributionFlags(initiator),

@@ -6,15 +6,8 @@ use native.Mathlib.Omega.{arith}
 use borrow.Author.Rules.{rules}
 use lib.ListN.{length}
 use Rattle.answer_lines.specs.AnswerLines.{octets_text}
-use Rattle.answer_lines.proofs.Texts.{octets_length, five}
+use Rattle.answer_lines.proofs.Texts.{octets_length, part_written, five}
 use Rattle.answer_lines.proofs.put_answer.Goals as goal
-
-pub put_field-requires : goal.put_field-requires
-put_field-requires c =
-    let m = c.args.machine.now in
-    let size : length {A = ℕ} m ≡ 161 = search rules in
-    let n = octets_length m (λ e. omega arith) in
-    omega arith
 
 pub returns : goal.returns
 returns c =
@@ -25,8 +18,8 @@ returns c =
     let list_at = length a.head.now + 323 in
     five a.out.now
     0 a.head.now c.write.ensures.slice
-    (length a.head.now) (omega arith) (octets_text m) c.put_field.ensures
+    (length a.head.now) (omega arith) (octets_text m) (part_written _ _ _ c.put_field.ensures (omega arith) (omega arith))
     (list_at - 1) (omega arith) (32 ∷ []) c.write-2.ensures.slice
-    list_at (omega arith) (octets_text a.list.now) c.put_field-2.ensures
+    list_at (omega arith) (octets_text a.list.now) (part_written _ _ _ c.put_field-2.ensures (omega arith) (omega arith))
     (list_at + c.field_length.result) (omega arith) (10 ∷ []) c.write-3.ensures.slice
     (omega arith)

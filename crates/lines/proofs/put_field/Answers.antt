@@ -1,27 +1,27 @@
 -- `lines::put_field` meets its contract. Assumes nothing.
-use mathlib.Core.Path.{sym, ap, ◌∙◌}
+use Rattle.std.proofs.lemmas.Grind.{common_steps}
+use mathlib.Core.Path.{sym}
+use Prim.Native.Nat.{◌/◌}
 use native.Mathlib.Omega.{arith}
-use Rattle.lines.specs.Lines.{laid}
-use Rattle.lines.proofs.Digits.{some_none, octets_length, nothing_laid}
-use Rattle.lines.proofs.Values.{short_field, digits_field}
+use lib.ListN.{length}
+use lib.Seq.{length-take-le}
+use Rattle.lines.proofs.Digits.{field_read, laid_front}
 use Rattle.lines.proofs.put_field.Goals as goal
 
 pub returns-then-text-lt2 : goal.returns-then-text-lt2
 returns-then-text-lt2 c =
-    let a = c in
-    rw (short_field a.args.text.now (omega arith) a.requires.0) (sym (nothing_laid a.args.out.now))
+    let w = field_read c.args.text.now c.requires.0 in
+    rw (w.field, laid_front c.args.out.now w.octets (omega arith)) (grind (arith, common_steps))
 
-pub put_octets-requires : goal.put_octets-requires
-put_octets-requires c =
-    let a = c in
-    let l = a.args.text.now in
-    let f = digits_field l (omega arith) a.requires.0 in
-    let n = octets_length l f.1 in
-    let m = f.3 in
-    (λ e. some_none (sym f.1 ∙ e), omega arith)
+pub slice_bounds-decode_to_slice-end : goal.slice_bounds-decode_to_slice-end
+slice_bounds-decode_to_slice-end c = let w = field_read c.args.text.now c.requires.0 in omega arith
+
+pub slice_bounds-decode_to_slice-end-2 : goal.slice_bounds-decode_to_slice-end-2
+slice_bounds-decode_to_slice-end-2 c = let w = field_read c.args.text.now c.requires.0 in sym (length-take-le (length c.args.text.now / 2) c.args.out.now (omega arith))
 
 pub returns : goal.returns
 returns c =
-    let a = c in
-    let f = digits_field a.args.text.now (omega arith) a.requires.0 in
-    c.put_octets.ensures ∙ ap (laid a.args.out.now) (f.1 ∙ sym f.2)
+    let w = field_read c.args.text.now c.requires.0 in
+    let n = length-take-le (length c.args.text.now / 2) c.args.out.now (omega arith) in
+    let v = rw (n, w.decodes c.if-text-lt2.false) at c.decode_to_slice.ensures.value in
+    rw (v.1, w.field, laid_front c.args.out.now w.octets (omega arith), w.number)

@@ -1,69 +1,70 @@
 -- `lines::split_line` meets its contract. Assumes nothing.
 use Rattle.std.specs.Prelude.{None}
-use mathlib.Core.Path.{◌≡◌, ap}
+use mathlib.Core.Path.{◌≡◌}
 use native.Mathlib.Omega.{arith}
 use borrow.Author.Rules.{rules}
-use lib.ListN.{length}
-use Rattle.lines.specs.Lines.{line_in}
-use Rattle.lines.proofs.Splits.{too_long, not_six, six, some_field}
+use borrow.Author.Tests.{tests}
+use Rattle.lines.proofs.Splits.{none_given, one_more, fewer, six}
 use Rattle.lines.proofs.split_line.Goals as goal
 
-pub returns-then-line-gt20000 : goal.returns-then-line-gt20000
-returns-then-line-gt20000 c = too_long c.args.line.now (omega arith)
+pub returns-in_err-next-2 : goal.returns-in_err-next-2
+returns-in_err-next-2 c =
+    let f = c.split-fields.ensures in
+    let w = none_given c.args.line.now _ _ c.next.ensures.steps f.rest f.done f.closure (λ x b q k. search (rules, tests)) in
+    let w1 = one_more w c.in_ok-next.was c.next.ensures.steps in
+    let e : c.from_residual-in_err-next-2.result ≡ None = search rules in
+    rw e (fewer w1 (omega arith) c.in_err-next-2.was c.next-2.ensures.steps)
 
-pub returns-in_err-role : goal.returns-in_err-role
-returns-in_err-role c =
-    let n1 = ap length c.in_err-role.ensures in
-    let e : c.from_residual.result ≡ None = search rules in
-    rw e (not_six c.args.line.now (λ h. omega arith))
+pub returns-in_err-next-3 : goal.returns-in_err-next-3
+returns-in_err-next-3 c =
+    let f = c.split-fields.ensures in
+    let w = none_given c.args.line.now _ _ c.next.ensures.steps f.rest f.done f.closure (λ x b q k. search (rules, tests)) in
+    let w1 = one_more w c.in_ok-next.was c.next.ensures.steps in
+    let w2 = one_more w1 c.in_ok-next-2.was c.next-2.ensures.steps in
+    let e : c.from_residual-in_err-next-3.result ≡ None = search rules in
+    rw e (fewer w2 (omega arith) c.in_err-next-3.was c.next-3.ensures.steps)
 
-pub returns-in_err-room : goal.returns-in_err-room
-returns-in_err-room c =
-    let n1 = ap length c.in_ok-role.ensures in
-    let n2 = ap length c.in_err-room.ensures in
-    let e : c.from_residual-in_err-room.result ≡ None = search rules in
-    rw e (not_six c.args.line.now (λ h. omega arith))
+pub returns-in_err-next-4 : goal.returns-in_err-next-4
+returns-in_err-next-4 c =
+    let f = c.split-fields.ensures in
+    let w = none_given c.args.line.now _ _ c.next.ensures.steps f.rest f.done f.closure (λ x b q k. search (rules, tests)) in
+    let w1 = one_more w c.in_ok-next.was c.next.ensures.steps in
+    let w2 = one_more w1 c.in_ok-next-2.was c.next-2.ensures.steps in
+    let w3 = one_more w2 c.in_ok-next-3.was c.next-3.ensures.steps in
+    let e : c.from_residual-in_err-next-4.result ≡ None = search rules in
+    rw e (fewer w3 (omega arith) c.in_err-next-4.was c.next-4.ensures.steps)
 
-pub returns-in_err-machine : goal.returns-in_err-machine
-returns-in_err-machine c =
-    let n1 = ap length c.in_ok-role.ensures in
-    let n2 = ap length c.in_ok-room.ensures in
-    let n3 = ap length c.in_err-machine.ensures in
-    let e : c.from_residual-in_err-machine.result ≡ None = search rules in
-    rw e (not_six c.args.line.now (λ h. omega arith))
+pub returns-in_err-next-5 : goal.returns-in_err-next-5
+returns-in_err-next-5 c =
+    let f = c.split-fields.ensures in
+    let w = none_given c.args.line.now _ _ c.next.ensures.steps f.rest f.done f.closure (λ x b q k. search (rules, tests)) in
+    let w1 = one_more w c.in_ok-next.was c.next.ensures.steps in
+    let w2 = one_more w1 c.in_ok-next-2.was c.next-2.ensures.steps in
+    let w3 = one_more w2 c.in_ok-next-3.was c.next-3.ensures.steps in
+    let w4 = one_more w3 c.in_ok-next-4.was c.next-4.ensures.steps in
+    let e : c.from_residual-in_err-next-5.result ≡ None = search rules in
+    rw e (fewer w4 (omega arith) c.in_err-next-5.was c.next-5.ensures.steps)
 
-pub returns-in_err-input : goal.returns-in_err-input
-returns-in_err-input c =
-    let n1 = ap length c.in_ok-role.ensures in
-    let n2 = ap length c.in_ok-room.ensures in
-    let n3 = ap length c.in_ok-machine.ensures in
-    let n4 = ap length c.in_err-input.ensures in
-    let e : c.from_residual-in_err-input.result ≡ None = search rules in
-    rw e (not_six c.args.line.now (λ h. omega arith))
+pub returns-in_err-next-6 : goal.returns-in_err-next-6
+returns-in_err-next-6 c =
+    let f = c.split-fields.ensures in
+    let w = none_given c.args.line.now _ _ c.next.ensures.steps f.rest f.done f.closure (λ x b q k. search (rules, tests)) in
+    let w1 = one_more w c.in_ok-next.was c.next.ensures.steps in
+    let w2 = one_more w1 c.in_ok-next-2.was c.next-2.ensures.steps in
+    let w3 = one_more w2 c.in_ok-next-3.was c.next-3.ensures.steps in
+    let w4 = one_more w3 c.in_ok-next-4.was c.next-4.ensures.steps in
+    let w5 = one_more w4 c.in_ok-next-5.was c.next-5.ensures.steps in
+    let e : c.from_residual-in_err-next-6.result ≡ None = search rules in
+    rw e (fewer w5 (omega arith) c.in_err-next-6.was c.next-6.ensures.steps)
 
-pub returns-in_err-payload : goal.returns-in_err-payload
-returns-in_err-payload c =
-    let n1 = ap length c.in_ok-role.ensures in
-    let n2 = ap length c.in_ok-room.ensures in
-    let n3 = ap length c.in_ok-machine.ensures in
-    let n4 = ap length c.in_ok-input.ensures in
-    let n5 = ap length c.in_err-payload.ensures in
-    let e : c.from_residual-in_err-payload.result ≡ None = search rules in
-    rw e (not_six c.args.line.now (λ h. omega arith))
-
-pub returns-in-None : goal.returns-in-None
-unfolding line_in
-returns-in-None c =
-    six c.args.line.now (omega arith)
-    (rw (c.in_ok-role.ensures, c.in_ok-room.ensures, c.in_ok-machine.ensures, c.in_ok-input.ensures, c.in_ok-payload.ensures, c.in-None.ensures))
-
-pub returns-in-Some : goal.returns-in-Some
-returns-in-Some c =
-    let n1 = ap length c.in_ok-role.ensures in
-    let n2 = ap length c.in_ok-room.ensures in
-    let n3 = ap length c.in_ok-machine.ensures in
-    let n4 = ap length c.in_ok-input.ensures in
-    let n5 = ap length c.in_ok-payload.ensures in
-    let n6 = ap length c.in-Some.ensures in
-    let n7 = some_field c.in-Some.field-0.1.now in
-    not_six c.args.line.now (λ h. omega arith)
+pub returns : goal.returns
+returns c =
+    let f = c.split-fields.ensures in
+    let w = none_given c.args.line.now _ _ c.next.ensures.steps f.rest f.done f.closure (λ x b q k. search (rules, tests)) in
+    let w1 = one_more w c.in_ok-next.was c.next.ensures.steps in
+    let w2 = one_more w1 c.in_ok-next-2.was c.next-2.ensures.steps in
+    let w3 = one_more w2 c.in_ok-next-3.was c.next-3.ensures.steps in
+    let w4 = one_more w3 c.in_ok-next-4.was c.next-4.ensures.steps in
+    let w5 = one_more w4 c.in_ok-next-5.was c.next-5.ensures.steps in
+    let w6 = one_more w5 c.in_ok-next-6.was c.next-6.ensures.steps in
+    rw c.then_some.ensures (six _ c.if-line-gt20000.false w6 _ _ c.is_none.ensures c.next-7.ensures.steps)

@@ -4,15 +4,14 @@ use mathlib.Core.Path.{◌≡◌, ◌∙◌}
 use mathlib.Core.List.{List, [], ◌∷◌, append_assoc}
 use Prim.Native.Nat.{ℕ}
 use native.Mathlib.Omega.{arith}
-use Rattle.std.specs.Prelude.{is_some}
 use lib.ListN.{length, length-append, replicate}
 use Rattle.octets.specs.Octets.{octets_of}
 use Rattle.octets.proofs.Octets.{word_length}
 use Rattle.octets.proofs.Parts.{over_all}
 use Rattle.types.specs.Types.{feature_octets}
-use Rattle.bond.specs.Bond.{address_octets, flag_code, bond_or_zeros}
+use Rattle.bond.specs.Bond.{address_octets, option_bond_octets}
 use Rattle.record.specs.Record.{phase_octets, confirm_in, received_in, method_code, machine_octets}
-use Rattle.record.proofs.Sizes.{phase_length, address_length, bond_length}
+use Rattle.record.proofs.Sizes.{phase_length, address_length, option_bond_length}
 use Rattle.record.proofs.Pieces.{four}
 use Rattle.record.proofs.machine_octets.Goals as goal
 
@@ -32,7 +31,7 @@ returns c =
     let n5 = word_length (received_in p) in
     let n6 = address_length q.local_address in
     let n7 = address_length q.peer_address in
-    let n8 = bond_length bond in
+    let n8 = option_bond_length bond in
     let zeros : List ℕ = replicate 161 0 in
     let first =
     four zeros
@@ -53,14 +52,14 @@ returns c =
     89 (address_octets q.peer_address) (rw c.encode-2.ensures at c.write-9.ensures.slice)
     96 (omega arith) (feature_octets q.local_features) (rw c.encode-3.ensures at c.write-10.ensures.slice)
     102 (omega arith) (feature_octets q.peer_features) (rw c.encode-4.ensures at c.write-11.ensures.slice)
-    108 (omega arith) (method_code q.pairing_method ∷ flag_code (is_some bond) ∷ [])
-    (rw (c.method_code-method.ensures, c.from.ensures, c.is_some.ensures) at c.write-12.ensures.slice)
+    108 (omega arith) (method_code q.pairing_method ∷ [])
+    (rw c.method_code-method.ensures at c.write-12.ensures.slice)
     (omega arith) in
     four zeros
     0 _ first
     34 (simp length-append (omega arith)) _ second
     89 (simp length-append (omega arith)) _ third
-    110 (simp length-append (omega arith)) (bond_or_zeros bond) (rw c.encode_bond.ensures at c.write-13.ensures.slice)
+    109 (simp length-append (omega arith)) (option_bond_octets bond) (rw c.encode_option_bond.ensures at c.write-13.ensures.slice)
     (omega arith)
     ∙ over_all zeros _ (simp length-append (omega arith))
     ∙ simp append_assoc

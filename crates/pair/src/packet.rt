@@ -1,0 +1,91 @@
+// A packet of the link: what a step reads of it, and how it is printed.
+use crate::print::{Octets, Shown};
+use arrayvec::ArrayVec;
+use host::Call;
+use octets::{octets_at, write};
+use std::fmt;
+use types::{Command, PairingFeatures};
+
+#[derive(Clone, Copy)]
+pub(crate) enum Packet {
+    // the terminal's, with which a pairing starts
+    PairingRequest(PairingFeatures),
+    // one that a step has sent
+    Sent(host::Packet),
+}
+
+// What the free places of a queue hold.
+impl Default for Packet {
+    fn default() -> Self {
+        Packet::PairingRequest(PairingFeatures::default())
+    }
+}
+
+impl Packet {
+    pub(crate) fn command(self) -> Command {
+        match self {
+            Packet::PairingRequest(_) => Command::PairingRequest,
+            Packet::Sent(packet) => packet.command(),
+        }
+    }
+
+    fn name(self) -> &'static str {
+        match self {
+            Packet::PairingRequest(_) => "Pairing Request",
+            Packet::Sent(host::Packet::PairingResponse(_)) => "Pairing Response",
+            Packet::Sent(host::Packet::PairingConfirm(_)) => "Pairing Confirm",
+            Packet::Sent(host::Packet::PairingRandom(_)) => "Pairing Random",
+            Packet::Sent(host::Packet::EncryptionInformation(_)) => "Encryption Information",
+            Packet::Sent(host::Packet::CentralIdentification { .. }) => "Central Identification",
+            Packet::Sent(host::Packet::IdentityInformation(_)) => "Identity Information",
+            Packet::Sent(host::Packet::IdentityAddressInformation(_)) => {
+                "Identity Address Information"
+            }
+        }
+    }
+
+    // The octets after the code.
+    pub(crate) fn payload(self) -> ArrayVec<u8, 16> {
+        let mut octets = [0; 17];
+        match self {
+            Packet::PairingRequest(features) => write(&mut octets, 1, &features.encode()),
+            Packet::Sent(packet) => Call::SendPacket(packet).write(&mut octets, 0),
+        };
+        let mut payload = ArrayVec::from(octets_at::<16>(&octets, 1));
+        payload.truncate(usize::from(self.command().payload_size()));
+        payload
+    }
+}
+
+impl fmt::Display for Packet {
+    fn fmt<W: fmt::Write>(&self, f: &mut fmt::Formatter<W>) -> fmt::Result {
+        let name = self.name();
+        match *self {
+            Packet::PairingRequest(features) => write!(f, "{name:<30}{}", Shown(features)),
+            Packet::Sent(packet) => write!(f, "{name:<30}{}", Shown(packet)),
+        }
+    }
+}
+
+// The payload.
+impl fmt::Display for Shown<host::Packet> {
+    fn fmt<W: fmt::Write>(&self, f: &mut fmt::Formatter<W>) -> fmt::Result {
+        match self.0 {
+            host::Packet::PairingResponse(features) => write!(f, "{}", Shown(features)),
+            host::Packet::PairingConfirm(confirm) => {
+                write!(f, "{}", Octets(confirm.0.to_le_bytes()))
+            }
+            host::Packet::PairingRandom(nonce) => write!(f, "{}", Octets(nonce.0.to_le_bytes())),
+            host::Packet::EncryptionInformation(ltk) => {
+                write!(f, "LTK {}", Octets(ltk.to_le_bytes()))
+            }
+            host::Packet::CentralIdentification { ediv, rand } => {
+                write!(f, "EDIV {ediv}, Rand {}", Octets(rand.to_le_bytes()))
+            }
+            host::Packet::IdentityInformation(irk) => {
+                write!(f, "IRK {}", Octets(irk.to_le_bytes()))
+            }
+            host::Packet::IdentityAddressInformation(address) => write!(f, "{}", Shown(address)),
+        }
+    }
+}
