@@ -154,7 +154,7 @@ bonded_body b = cond (eqb (get_or b 0 0) 0) (on_present b (flag_of (get_or b 1 0
 unfoldable pub bonded_at : List ℕ → ℕ → Found (Result (Option BondInformation) Error)
 bonded_at s at = on_found (answer_at s at call.EnableBondedEncryption) bonded_body
 
--- ---- what a reader of the code gives
+-- ---- what the code gives
 
 -- why there is no answer: the step wants one, or it is refused by 3
 abbrev pub stop_found : {A : Type 0} → Stop → Found A

@@ -4,7 +4,7 @@ use Rattle.std.specs.Prelude.{ℕ, zero, suc, ◌+◌, ◌-◌, ◌/◌, ◌%◌
 use Rattle.octets.specs.Octets.{fits_at, write_at}
 use Rattle.machine.specs.declared.Machine.{Machine}
 use Rattle.record.specs.Record.{machine_octets}
-use Rattle.protocol.specs.Refusals.{refusal_number}
+use Rattle.protocol.specs.Outcome.{refusal_number}
 use Rattle.protocol.specs.declared.Outcome.{Outcome}
 use Rattle.protocol.specs.declared.Outcome.TheVariants as outcome
 use Rattle.protocol.specs.declared.Stepped.{Stepped}

@@ -1,7 +1,7 @@
 // lib.rs: addresses, errors and bonds, with the octets that document 01 gives them.
 #![tactic(auto)]
 
-ghost use Rattle.std.specs.Prelude.{◌≡◌, ◌+◌, ◌≤◌, length, take, drop};
+ghost use Rattle.std.specs.Prelude.{◌≡◌};
 ghost use Rattle.bond.specs.Bond.{bd_addr_of, bd_addr_octets, address_of, address_octets, address_type};
 ghost use Rattle.bond.specs.Bond.{failed_body, verdict_error, verdict_result, flag_of, bond_octets, bond_of, option_bond_octets};
 

@@ -2,7 +2,8 @@
 #![tactic(auto)]
 
 ghost use Rattle.std.specs.Prelude.{◌≡◌};
-ghost use Rattle.protocol.specs.Step.{step};
+ghost use Rattle.protocol.specs.Outcome.{step_outcome};
+ghost use Rattle.protocol.specs.Step.{step, step_of};
 ghost use Rattle.entry.specs.Entry.{stepped, Keeps};
 
 use machine::{Input, Machine, Role};
@@ -28,7 +29,7 @@ pub fn step_in_place(
     answers: &[u8],
     list: &mut [u8],
 ) -> StepResult
-    ensures { (stepped result machine.new list.new ≡ step role machine.old input payload.now answers.now list.old) × Keeps result.outcome machine.old machine.new }
+    ensures { (stepped result machine.new list.new ≡ step role machine.old input payload.now answers.now list.old) × Keeps (step_outcome result.outcome) machine.old machine.new }
 {
     let stepped = step(role, *machine, input, payload, answers, list);
     *machine = stepped.machine;
@@ -49,7 +50,7 @@ pub fn step_local(
     answers: &[u8],
     list: &mut [u8],
 ) -> Stepped
-    ensures { record { stepped = result; list = list.new } ≡ step role machine input payload.now answers.now list.old }
+    ensures { step_of result list.new ≡ step role machine input payload.now answers.now list.old }
 {
     let mut held = machine;
     let result = step_in_place(&mut held, role, input, payload, answers, list);

@@ -5,10 +5,10 @@
 
 ghost use Rattle.std.specs.Prelude.{◌≡◌, OnErr};
 ghost use Rattle.machine.specs.declared.Phase.TheVariants as phase;
-ghost use Rattle.protocol.specs.Handlers.{on_receiving_keys, other_input, handle_encryption_information, names_encryption_key, names_identity_key};
+ghost use Rattle.protocol.specs.Handlers.{on_receiving_keys, other_input, handle_encryption_information, names_identity_key};
 ghost use Rattle.protocol.specs.LegacyCentral.{await_identity_or_send, handle_link_encrypted_success, handle_peer_confirm, handle_pass_key_input};
 ghost use Rattle.protocol.specs.LegacyCentral.{handle_pairing_response, handle_central_identification, handle_identity_address_information};
-ghost use Rattle.protocol.specs.LegacyCentral.{link_encrypted, transition_from, transition, handle_input};
+ghost use Rattle.protocol.specs.LegacyCentral.{transition_from, transition, handle_input};
 ghost use Rattle.ops.specs.Run.{run};
 ghost use Rattle.handlers.specs.Outcomes.{ran_machine, ran_entered};
 

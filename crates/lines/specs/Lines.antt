@@ -2,7 +2,6 @@
 -- A step line, ROLE LISTLEN MACHINE INPUT PAYLOAD ANSWERS, without its line feed, and what is read of it. `none` stands
 -- for malformed. Assumes nothing.
 use Rattle.std.specs.Prelude.{ℕ, ◌+◌, ◌-◌, ◌*◌, ◌≡◌, Bool, true, false, cond, ◌&&◌, List, [], ◌∷◌, leb, eqb, length, get_or, Option, Some, None, Result, Ok, Err}
-use Rattle.std.specs.Borrow.{Bor}
 use Rattle.octets.specs.Answer.{Answer, refused, accepted}
 use Rattle.octets.specs.Octets.{from_octets, word_of, write_at}
 use Rattle.machine.specs.declared.Role.{Role}
@@ -217,11 +216,6 @@ pub record LineRead (line payload answers : List ℕ) (answer : Result ReadLine 
 -- the number of octets
 abbrev pub size_of : Option (List ℕ) → Option ℕ
 size_of x = and_then x (λ o. Some (length o))
-
--- what stands before the first space, and behind it
-abbrev pub Cut : List ℕ → Option (Bor (List ℕ) × Bor (List ℕ)) → Type 0
-Cut l None = fields l ≡ l ∷ []
-Cut l (Some parts) = fields l ≡ parts.0.now ∷ fields parts.1.now
 
 unfoldable pub line_in : Fields → Option StepLine
 line_in f = line_with f.role.now f.room.now f.machine.now f.input.now f.payload.now f.answers.now

@@ -5,7 +5,7 @@ ghost use Rattle.std.specs.Prelude.{◌≡◌, ◌≤◌, length, None, is_some}
 ghost use Rattle.std.specs.List.{list_all};
 ghost use Rattle.lines.specs.Lines.{most, digit_of, octets_in, octets_of_length, octets_field, role_of, room_of};
 ghost use Rattle.lines.specs.Lines.{machine_in, link_of, event_alone, command_of, pass_key_of, oob_data_of, input_of, may_carry};
-ghost use Rattle.lines.specs.Lines.{size_of, laid, SplitAs, line_with, fields_read, LineRead};
+ghost use Rattle.lines.specs.Lines.{size_of, laid, SplitAs, fields_read, LineRead};
 
 use hex::{FromHex, decode_to_slice};
 use machine::{Event, Input, Machine, Role};

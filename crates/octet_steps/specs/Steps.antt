@@ -18,9 +18,8 @@ use Rattle.machine.specs.declared.Machine.{Machine}
 use Rattle.machine.specs.declared.Role.{Role}
 use Rattle.machine.specs.declared.Role.TheVariants.{Central, Peripheral}
 use Rattle.record.specs.Record.{machine_octets, machine_of, record_refusal}
-use Rattle.protocol.specs.Refusals.{refusal_number}
-use Rattle.protocol.specs.declared.Outcome.{Outcome}
-use Rattle.protocol.specs.declared.Outcome.TheVariants as outcome
+use Rattle.protocol.specs.Outcome.{StepOutcome, refusal_number}
+use Rattle.protocol.specs.Outcome as outcome
 use Rattle.protocol.specs.Step.{Step, step}
 use Rattle.protocol.specs.FairLink.{fresh_data}
 use Rattle.octet_values.specs.Values.{done, Wrote, writes, address_in, error_number, number_of}
@@ -88,10 +87,10 @@ input_of n payload =
 
 -- ---- a step
 
-abbrev pub outcome_number : Outcome → ℕ
-outcome_number outcome.Ended = done
-outcome_number outcome.Wants = wants
-outcome_number (outcome.Refused n) = refusal_number n
+abbrev pub outcome_number : StepOutcome → ℕ
+outcome_number outcome.ended = done
+outcome_number outcome.wants = wants
+outcome_number (outcome.refused n) = n
 
 -- the number given back, and what stands behind the references
 pub record StepLeft : Type 0 where
@@ -106,19 +105,19 @@ step_left number machine list read written =
     record { number = number; machine = machine; list = list; read = read; written = written }
 
 -- a step that ended leaves its machine's record, another the record given
-abbrev pub record_after : Outcome → List ℕ → Machine → List ℕ
-record_after outcome.Ended given m = machine_octets m
-record_after outcome.Wants given m = given
-record_after (outcome.Refused n) given m = given
+abbrev pub record_after : StepOutcome → List ℕ → Machine → List ℕ
+record_after outcome.ended given m = machine_octets m
+record_after outcome.wants given m = given
+record_after (outcome.refused n) given m = given
 
 abbrev pub stored : List ℕ → Step → StepLeft
 stored given s =
     record {
-      number = outcome_number s.stepped.outcome;
-      machine = record_after s.stepped.outcome given s.stepped.machine;
+      number = outcome_number s.outcome;
+      machine = record_after s.outcome given s.machine;
       list = s.list;
-      read = s.stepped.read;
-      written = s.stepped.written;
+      read = s.read;
+      written = s.written;
     }
 
 -- a role, a record or an input that is none is refused before the step, and nothing is written

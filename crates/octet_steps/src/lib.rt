@@ -165,7 +165,7 @@ pub struct Progress {
 // One step of the machine whose record is given, of role 0 (terminal) or 1 (head), on an input, the host's answers so
 // far and a call list of at least 164 octets. A step that ended has written the record anew; one that wants has not.
 // The clause is for whatever counts C's caller has behind its references.
-#[tactic(auto, unfolding(crate::specs::Steps::step_on), using(crate::proofs::Reading::read_length, crate::proofs::Counts::refused_counts))]
+#[tactic(auto, unfolding(crate::specs::Steps::step_on), using(crate::proofs::Reading::read_length, protocol::proofs::StepLaws::refused_numbers))]
 pub fn step_machine(
     role: u8,
     machine: &mut [u8],

@@ -3,7 +3,7 @@
 #![tactic(auto)]
 
 ghost use Rattle.std.specs.Prelude.{◌≡◌};
-ghost use Rattle.host.specs.Calls.{no_trace, push_of};
+ghost use Rattle.host.specs.Calls.{no_trace};
 ghost use Rattle.host.specs.declared.call.Question.TheVariants as question;
 ghost use Rattle.host.specs.declared.call.Draw.TheVariants as draw;
 ghost use Rattle.host.specs.declared.call.Call.TheVariants as call;

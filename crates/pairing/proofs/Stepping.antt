@@ -13,7 +13,7 @@ use Rattle.machine.specs.declared.Machine.{Machine}
 use Rattle.machine.specs.declared.Role.{Role}
 use Rattle.protocol.specs.Program.{Ending, ended, wanting, refusing}
 use Rattle.protocol.specs.Step.{handle_input_by_role, play_of, stepped, is_known, step}
-use Rattle.protocol.specs.declared.Outcome.TheVariants as outcome
+use Rattle.protocol.specs.Outcome as outcome
 use Rattle.protocol.proofs.Limits.{most_octets}
 use Rattle.ops.specs.Run.{run}
 use Rattle.ops.proofs.Playing.{ran_as, run_first, listed_octets}
@@ -24,10 +24,10 @@ play_reported :
     (m : Machine) (list : List ℕ) (cs : List Call) (n : ℕ) (e : Ending Machine) → length (calls_octets cs) ≤ longest →
     reported m list (ran_as no_trace (record { ending = e; calls = cs; place = n })) ≡ stepped m list cs n e
 play_reported m list cs n (ended m₁) h =
-    ap (λ (w : List ℕ). record { stepped = record { outcome = outcome.Ended; machine = m₁; read = n; written = length w }; list = write_at list 0 w })
+    ap (λ (w : List ℕ). record { outcome = outcome.ended; machine = m₁; read = n; written = length w; list = write_at list 0 w })
     (listed_octets n cs h)
 play_reported m list cs n wanting h =
-    ap (λ (w : List ℕ). record { stepped = record { outcome = outcome.Wants; machine = m; read = n; written = length w }; list = write_at list 0 w })
+    ap (λ (w : List ℕ). record { outcome = outcome.wants; machine = m; read = n; written = length w; list = write_at list 0 w })
     (listed_octets n cs h)
 play_reported m list cs n refusing h = refl
 

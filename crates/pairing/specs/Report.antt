@@ -4,29 +4,27 @@ use Rattle.std.specs.Prelude.{ℕ, List, length}
 use Rattle.octets.specs.Octets.{write_at}
 use Rattle.host.specs.Calls.{listed}
 use Rattle.host.specs.declared.call.Trace.{Trace}
+use Rattle.answer.specs.Answers.{answer_refusal}
 use Rattle.answer.specs.declared.Stop.TheVariants.{Wanted, Refused}
 use Rattle.machine.specs.declared.Machine.{Machine}
-use Rattle.protocol.specs.declared.Refusal.TheVariants.{ForbiddenAnswer}
-use Rattle.protocol.specs.declared.Outcome.{Outcome}
-use Rattle.protocol.specs.declared.Outcome.TheVariants as outcome
-use Rattle.protocol.specs.declared.Stepped.{Stepped}
+use Rattle.protocol.specs.Outcome.{StepOutcome}
+use Rattle.protocol.specs.Outcome as outcome
 use Rattle.protocol.specs.Step.{Step, refused_by}
 use Rattle.ops.specs.Run.{Ran, ended, stopped}
 
--- the result of a step, and the list behind it
-abbrev pub step_of : Stepped → List ℕ → Step
-step_of r list = record { stepped = r; list = list }
-
 -- the trace's calls stand at the front of the list
-abbrev pub listing : Outcome → Machine → List ℕ → Trace → Step
+abbrev pub listing : StepOutcome → Machine → List ℕ → Trace → Step
 listing o m list t =
     record {
-      stepped = record { outcome = o; machine = m; read = t.read; written = length (listed t) };
+      outcome = o;
+      machine = m;
+      read = t.read;
+      written = length (listed t);
       list = write_at list 0 (listed t);
     }
 
 -- m is the machine before the step
 abbrev pub reported : Machine → List ℕ → Ran Machine → Step
-reported m list (ended m₁ t) = listing outcome.Ended m₁ list t
-reported m list (stopped Wanted t) = listing outcome.Wants m list t
-reported m list (stopped Refused t) = refused_by ForbiddenAnswer m list
+reported m list (ended m₁ t) = listing outcome.ended m₁ list t
+reported m list (stopped Wanted t) = listing outcome.wants m list t
+reported m list (stopped Refused t) = refused_by answer_refusal m list

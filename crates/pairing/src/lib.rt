@@ -3,10 +3,10 @@
 
 ghost use Rattle.std.specs.Prelude.{◌≡◌, OnErr};
 ghost use Rattle.protocol.specs.declared.Outcome.TheVariants as outcome;
-ghost use Rattle.protocol.specs.Step.{step, handle_input_by_role, is_known};
+ghost use Rattle.protocol.specs.Step.{step, step_of, handle_input_by_role, is_known};
 ghost use Rattle.ops.specs.Run.{run};
 ghost use Rattle.handlers.specs.Outcomes.{ran_entered};
-ghost use Rattle.pairing.specs.Report.{step_of, reported};
+ghost use Rattle.pairing.specs.Report.{reported};
 
 use answer::Stop;
 use handlers::input::Received;
@@ -94,7 +94,7 @@ pub fn step(
     answers: &[u8],
     list: &mut [u8],
 ) -> Stepped
-    ensures { record { stepped = result; list = list.new } ≡ step role machine input payload.now answers.now list.old }
+    ensures { step_of result list.new ≡ step role machine input payload.now answers.now list.old }
 {
     if list.len() < LONGEST {
         return refused(machine, Refusal::ShortList);

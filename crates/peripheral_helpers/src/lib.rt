@@ -25,7 +25,7 @@ use types::{
     AuthReq, BondingFlag, Command, IoCapabilities, KeyDistributionFlags, PairingFeatures, Reason,
     UseOutOfBand,
 };
-use util::{PairingMethod, PassKeyEntryAction, legacy_pairing_method};
+use util::{PairingMethod, PassKeyEntryAction, choose_legacy_pairing_method};
 
 // c1 of a nonce: the peer is the initiator.
 // In each role's own file, as in the Rust.
@@ -101,7 +101,8 @@ pub fn handle_pairing_request(
     let local_features = response_features(local, peer_features, offered, bonding, available);
     machine.pairing_data.local_features = local_features;
     machine.pairing_data.peer_features = peer_features;
-    machine.pairing_data.pairing_method = legacy_pairing_method(peer_features, local_features);
+    let method = choose_legacy_pairing_method(peer_features, local_features);
+    machine.pairing_data.pairing_method = method;
     ops.try_send_packet(Packet::PairingResponse(local_features))?;
     let pres = command_octets(Command::PairingResponse, local_features.encode());
     begin_method(ops, machine, preq, pres)

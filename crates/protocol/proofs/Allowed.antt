@@ -70,6 +70,11 @@ exchanged_start a b = fair_of_sizes 16 7 a b (lit≤ tt) (lit≤ tt) (lit≤ tt)
 abbrev pub any_shared : (oob : ℕ) (shown typed : ℕ) → shown ≤ pass_key_max → Shared
 any_shared oob shown typed most = record { oob = oob; shown = shown; typed = typed; shown_most = most }
 
+-- OOB data is the shared, at either end
+pub oob_data_shared :
+    (shared : Shared) (m : Machine) → input_of shared m (an_event oob_data) ≡ input.Event (event.OobDataReceived shared.oob)
+oob_data_shared shared m = refl
+
 -- where both type, what is typed is free: any number
 pub typed_where_both_type :
     (shared : Shared) (m : Machine) → m.pairing_data.pairing_method ≡ BOTH_INPUT →

@@ -3,9 +3,9 @@
 -- not matter: Limits.) Assumes nothing.
 use Rattle.std.specs.Prelude.{Option, Some}
 use Prim.Native.Nat.{ℕ, ◌<◌, ◌≤◌}
-use mathlib.Core.Path.{◌≡◌, refl}
+use mathlib.Core.Path.{◌≡◌, refl, ◌∙◌}
 use mathlib.Core.Bool.{false}
-use mathlib.Core.List.{List, []}
+use mathlib.Core.List.{List, [], ◌∷◌}
 use lib.Dec.{eqb}
 use lib.ListN.{length, get_or, take, drop}
 use borrow.Author.Tests.{eq-eqb, ne_eqb, lt-ltb, le-ltb}
@@ -13,13 +13,15 @@ use Rattle.octets.specs.Octets.{from_octets, word_of}
 use Rattle.crypto.specs.declared.crypto.Confirm.{Confirm}
 use Rattle.crypto.specs.declared.crypto.LongTermKey.{LongTermKey}
 use Rattle.crypto.specs.declared.crypto.Nonce.{Nonce}
-use Rattle.types.specs.Types.{command_code}
+use Rattle.types.specs.Types.{command_code, reason_of}
 use Rattle.types.specs.declared.types.Command.{Command}
 use Rattle.types.specs.declared.types.Command.TheVariants as command
 use Rattle.types.specs.declared.types.Reason.TheVariants as reason
+use Rattle.bond.specs.declared.Address.{Address}
 use Rattle.bond.specs.declared.Error.{Error}
 use Rattle.bond.specs.declared.Error.TheVariants.{Security, InvalidState, InvalidValue}
 use Rattle.host.specs.declared.call.Question.TheVariants as question
+use Rattle.machine.specs.Machine.{no_confirm_data, want_bonding}
 use Rattle.machine.specs.declared.ConfirmPhaseData.{ConfirmPhaseData}
 use Rattle.machine.specs.declared.Event.TheVariants as event
 use Rattle.machine.specs.declared.Input.{Input}
@@ -30,10 +32,11 @@ use Rattle.machine.specs.declared.Phase.{Phase}
 use Rattle.machine.specs.declared.Phase.TheVariants as phase
 use Rattle.machine.specs.declared.Role.{Role}
 use Rattle.machine.specs.declared.Role.TheVariants.{Central, Peripheral}
-use Rattle.protocol.specs.Handlers.{◌>>=◌, ◌>>◌, fail, asked, word_in, features_in, identification_in, address_in, reason_in, other_input, store_confirm_bytes}
+use Rattle.protocol.specs.Handlers.{◌>>=◌, ◌>>◌, give, fail, asked, word_in, features_in, identification_in, address_in, reason_in}
+use Rattle.protocol.specs.Handlers.{enters, with_identity_address, other_input, store_confirm_bytes}
 use Rattle.protocol.specs.LegacyCentral as central
 use Rattle.protocol.specs.LegacyPeripheral as peripheral
-use Rattle.protocol.proofs.Awaited.{transition_of, same_ways, not_awaited}
+use Rattle.protocol.proofs.Awaited.{transition_of, same_ways, awaited_packet, IsOther, other_packets, NotAwaited, not_awaited}
 
 abbrev pub standing : Phase → ConfirmPhaseData → PairingData → Machine
 standing p c d = record { phase = p; confirm_data = c; pairing_data = d }
@@ -87,6 +90,15 @@ module _ (c : ConfirmPhaseData) (d : PairingData) (payload : List ℕ) where
   identification_short Central ltk h = rw (lt-ltb (length payload) 10 h)
   identification_short Peripheral ltk h = rw (lt-ltb (length payload) 10 h)
 
+  -- .. it is awaited behind the key, and not before it
+  pub identification_before_the_key :
+      (r : Role) (ltk : LongTermKey) →
+      transition_of r (standing (phase.ReceivingKeys 0 ltk) c d) (received command.CentralIdentification) payload
+      ≡ fail d InvalidState
+  unfolding central.transition peripheral.transition other_input
+  identification_before_the_key Central ltk = refl
+  identification_before_the_key Peripheral ltk = refl
+
   -- .. longer is read by its first 10
   pub identification_long :
       10 ≤ length payload →
@@ -115,6 +127,16 @@ module _ (c : ConfirmPhaseData) (d : PairingData) (payload : List ℕ) where
       peripheral.handle_identity_address_information address_in
   address_of_no_kind Central h k = rw (le-ltb (length payload) 7 h, lt-ltb 1 (get_or payload 0 0) k)
   address_of_no_kind Peripheral h k = rw (le-ltb (length payload) 7 h, lt-ltb 1 (get_or payload 0 0) k)
+
+  -- ---- behind the head's identity the terminal sends no keys without a common wish to bond: it is in Success
+
+  pub no_keys_without_bonding :
+      (a : Address) → address_in payload ≡ Some a → want_bonding d ≡ false →
+      central.transition (standing phase.WaitingIdentitityAddressInformation c d)
+      (received command.IdentityAddressInformation) payload
+      ≡ give (enters phase.Success no_confirm_data (with_identity_address a d))
+  unfolding central.transition central.handle_identity_address_information
+  no_keys_without_bonding a h w = rw (h, w) refl
 
   -- ---- a request or response of other than 6 octets is InvalidParameters, the pairing data unchanged
 
@@ -190,16 +212,44 @@ link_not_encrypted Central (phase.ReceivingKeys n k) c d payload = same_ways (eq
 link_not_encrypted Central phase.Success c d payload = refl
 link_not_encrypted Central (phase.Error e) c d payload = refl
 
--- ---- PairingFailed from the peer, in any state: an empty one gives UnspecifiedReason
+-- ---- Success and Error await nothing
 
-pub failed_empty :
-    (r : Role) (m : Machine) →
-    transition_of r m (received command.PairingFailed) []
-    ≡ fail m.pairing_data (Security reason.UnspecifiedReason)
-unfolding other_input reason_in
-failed_empty r m =
-    not_awaited r m (command_code command.PairingFailed) []
-    (record {
+module _ (r : Role) (c : ConfirmPhaseData) (d : PairingData) (payload : List ℕ) (i : Input) where
+  pub success_awaits_nothing :
+      let m = standing phase.Success c d in transition_of r m i payload ≡ other_input m payload i
+  unfolding central.transition peripheral.transition
+  success_awaits_nothing = by_role r
+    where
+      by_role : (r : Role) →
+          let m = standing phase.Success c d in transition_of r m i payload ≡ other_input m payload i
+      by_role Central = refl
+      by_role Peripheral = refl
+
+  pub error_awaits_nothing :
+      (e : Error) → let m = standing (phase.Error e) c d in transition_of r m i payload ≡ other_input m payload i
+  unfolding central.transition peripheral.transition
+  error_awaits_nothing e = by_role r
+    where
+      by_role : (r : Role) →
+          let m = standing (phase.Error e) c d in transition_of r m i payload ≡ other_input m payload i
+      by_role Central = refl
+      by_role Peripheral = refl
+
+-- ---- a packet that the state does not await is InvalidState, but for PairingFailed and a KeypressNotification
+
+pub unawaited_packet :
+    (r : Role) (m : Machine) (code : ℕ) (payload : List ℕ) → IsOther code (awaited_packet r m.phase) →
+    eqb code (command_code command.KeypressNotification) ≡ false →
+    eqb code (command_code command.PairingFailed) ≡ false →
+    transition_of r m (input.Command code) payload ≡ fail m.pairing_data InvalidState
+unfolding other_input
+unawaited_packet r m code payload o h k = other_packets r m code payload o ∙ rw (h, k) refl
+
+-- ---- PairingFailed from the peer, in any state: an empty one gives UnspecifiedReason, another the reason of its first octet
+
+failed_not_awaited : NotAwaited (command_code command.PairingFailed)
+failed_not_awaited =
+    record {
       request = refl;
       response = refl;
       confirm = refl;
@@ -208,4 +258,19 @@ failed_empty r m =
       identification = refl;
       identity = refl;
       address = refl;
-    })
+    }
+
+pub failed_empty :
+    (r : Role) (m : Machine) →
+    transition_of r m (received command.PairingFailed) []
+    ≡ fail m.pairing_data (Security reason.UnspecifiedReason)
+unfolding other_input reason_in
+failed_empty r m =
+    not_awaited r m (command_code command.PairingFailed) [] failed_not_awaited
+
+pub failed_with_reason :
+    (r : Role) (m : Machine) (x : ℕ) (payload : List ℕ) →
+    transition_of r m (received command.PairingFailed) (x ∷ payload) ≡ fail m.pairing_data (Security (reason_of x))
+unfolding other_input reason_in
+failed_with_reason r m x payload =
+    not_awaited r m (command_code command.PairingFailed) (x ∷ payload) failed_not_awaited

@@ -25,8 +25,8 @@ use Rattle.machine.specs.declared.PairingData.{PairingData}
 use Rattle.machine.specs.declared.Phase.TheVariants as phase
 use Rattle.machine.specs.declared.Role.{Role}
 use Rattle.machine.specs.declared.Role.TheVariants.{Central, Peripheral}
-use Rattle.protocol.specs.declared.Outcome.{Outcome}
-use Rattle.protocol.specs.declared.Outcome.TheVariants as outcome
+use Rattle.protocol.specs.Outcome.{StepOutcome}
+use Rattle.protocol.specs.Outcome as outcome
 use Rattle.protocol.specs.Handlers.{enter, enters}
 use Rattle.protocol.specs.LegacyCentral as central
 use Rattle.protocol.specs.LegacyPeripheral as peripheral
@@ -48,29 +48,29 @@ front :
 front list h a b c = written list 0 (a ∷ b ∷ c ∷ []) (omega arith)
 
 -- list 20 01 01 at the front, written 3
-abbrev listed : Outcome → Machine → ℕ → List ℕ → Step
-listed o m read list = record { stepped = record { outcome = o; machine = m; read = read; written = 3 }; list = list }
+abbrev listed : StepOutcome → Machine → ℕ → List ℕ → Step
+listed o m read list = record { outcome = o; machine = m; read = read; written = 3; list = list }
 
 -- wants 0x20: list 20 01 01, written 3, read 0, the machine as it was
 pub example_wants :
     (r : Role) (b : Option Confirm) (c : ConfirmPhaseData) (d : PairingData) (list : List ℕ) → longest ≤ length list →
     step r (typing b c d) cancel [] [] list
-    ≡ listed outcome.Wants (typing b c d) 0 (0x20 ∷ 0x01 ∷ 0x01 ∷ drop 3 list)
+    ≡ listed outcome.wants (typing b c d) 0 (0x20 ∷ 0x01 ∷ 0x01 ∷ drop 3 list)
 unfolding step play_of central.handle_input peripheral.handle_input central.transition peripheral.transition enter
     calls_octets call_octets verdict_at body_at
 example_wants Central b c d list h =
-    rw (le-ltb (length list) longest h) (ap (listed outcome.Wants (typing b c d) 0) (front list h 0x20 0x01 0x01))
+    rw (le-ltb (length list) longest h) (ap (listed outcome.wants (typing b c d) 0) (front list h 0x20 0x01 0x01))
 example_wants Peripheral b c d list h =
-    rw (le-ltb (length list) longest h) (ap (listed outcome.Wants (typing b c d) 0) (front list h 0x20 0x01 0x01))
+    rw (le-ltb (length list) longest h) (ap (listed outcome.wants (typing b c d) 0) (front list h 0x20 0x01 0x01))
 
 -- with answer 20 00 it ends in Error(PasskeyEntryFailed), read 2
 pub example_ends :
     (r : Role) (b : Option Confirm) (c : ConfirmPhaseData) (d : PairingData) (list : List ℕ) → longest ≤ length list →
     step r (typing b c d) cancel [] (0x20 ∷ 0x00 ∷ []) list
-    ≡ listed outcome.Ended (entry_failed d) 2 (0x20 ∷ 0x01 ∷ 0x01 ∷ drop 3 list)
+    ≡ listed outcome.ended (entry_failed d) 2 (0x20 ∷ 0x01 ∷ 0x01 ∷ drop 3 list)
 unfolding step play_of central.handle_input peripheral.handle_input central.transition peripheral.transition enter
     calls_octets call_octets verdict_at body_at
 example_ends Central b c d list h =
-    rw (le-ltb (length list) longest h) (ap (listed outcome.Ended (entry_failed d) 2) (front list h 0x20 0x01 0x01))
+    rw (le-ltb (length list) longest h) (ap (listed outcome.ended (entry_failed d) 2) (front list h 0x20 0x01 0x01))
 example_ends Peripheral b c d list h =
-    rw (le-ltb (length list) longest h) (ap (listed outcome.Ended (entry_failed d) 2) (front list h 0x20 0x01 0x01))
+    rw (le-ltb (length list) longest h) (ap (listed outcome.ended (entry_failed d) 2) (front list h 0x20 0x01 0x01))

@@ -12,8 +12,8 @@ use Rattle.host.specs.declared.call.Call.{Call}
 use Rattle.machine.specs.declared.Machine.{Machine}
 use Rattle.machine.specs.declared.Role.{Role}
 use Rattle.machine.specs.declared.Role.TheVariants.{Central, Peripheral}
-use Rattle.protocol.specs.declared.Outcome.{Outcome}
-use Rattle.protocol.specs.declared.Outcome.TheVariants as outcome
+use Rattle.protocol.specs.Outcome.{StepOutcome}
+use Rattle.protocol.specs.Outcome as outcome
 use Rattle.protocol.specs.Program.{wanting, play}
 use Rattle.protocol.specs.Ops.{reply_at, Program}
 use Rattle.protocol.specs.Step.{handle_input_by_role, play_of}
@@ -71,19 +71,19 @@ module _ (shared : Shared) (s : Start) where
     pub had_by : HadBy e.open_step e.had_oob
     pub oob_once : OobOnce e
 
-  open_known : (o : Outcome) (g : Given) (answers : List ℕ) → KnownGiven g → KnownOpen (open_after o g answers)
-  open_known outcome.Ended g answers k = tt
-  open_known outcome.Wants g answers k = k
-  open_known (outcome.Refused n) g answers k = tt
+  open_known : (o : StepOutcome) (g : Given) (answers : List ℕ) → KnownGiven g → KnownOpen (open_after o g answers)
+  open_known outcome.ended g answers k = tt
+  open_known outcome.wants g answers k = k
+  open_known (outcome.refused n) g answers k = tt
 
-  open_had : (o : Outcome) (g : Given) (answers : List ℕ) (had : Bool) →
+  open_had : (o : StepOutcome) (g : Given) (answers : List ℕ) (had : Bool) →
       HadBy (open_after o g answers) (had_oob_after g had)
-  open_had outcome.Ended g answers had = tt
-  open_had outcome.Wants (a_packet p) answers had = refl
-  open_had outcome.Wants (an_event pass_key) answers had = refl
-  open_had outcome.Wants (an_event oob_data) answers had = refl
-  open_had outcome.Wants (an_event encryption_on) answers had = refl
-  open_had (outcome.Refused n) g answers had = tt
+  open_had outcome.ended g answers had = tt
+  open_had outcome.wants (a_packet p) answers had = refl
+  open_had outcome.wants (an_event pass_key) answers had = refl
+  open_had outcome.wants (an_event oob_data) answers had = refl
+  open_had outcome.wants (an_event encryption_on) answers had = refl
+  open_had (outcome.refused n) g answers had = tt
 
   -- the end that moved
   after_sound :
@@ -95,8 +95,8 @@ module _ (shared : Shared) (s : Start) where
   after_sound r L g answers queue due new k q o =
       record {
         queued = q;
-        opened = open_known (step_at shared r L g answers).stepped.outcome g answers k;
-        had_by = open_had (step_at shared r L g answers).stepped.outcome g answers (end_of r L).had_oob;
+        opened = open_known (step_at shared r L g answers).outcome g answers k;
+        had_by = open_had (step_at shared r L g answers).outcome g answers (end_of r L).had_oob;
         oob_once =
             omega (
               arith,

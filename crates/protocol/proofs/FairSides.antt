@@ -173,8 +173,8 @@ module _ (shared : Shared) (s : Start) where
 
     pub act_after_lem :
         KnownGiven g →
-        act_of (step_at shared r L g answers).stepped.machine
-        (open_after (step_at shared r L g answers).stepped.outcome g answers)
+        act_of (step_at shared r L g answers).machine
+        (open_after (step_at shared r L g answers).outcome g answers)
         ≡ act_after Ends Agrees (machine_at r L) g answers played.ending
     unfolding step_at step play_of
     act_after_lem k =
@@ -182,8 +182,8 @@ module _ (shared : Shared) (s : Start) where
       where
         go :
             (list : List ℕ) (calls : List Call) (n : ℕ) (e : Ending Machine) →
-            act_of (stepped (machine_at r L) list calls n e).stepped.machine
-            (open_after (stepped (machine_at r L) list calls n e).stepped.outcome g answers)
+            act_of (stepped (machine_at r L) list calls n e).machine
+            (open_after (stepped (machine_at r L) list calls n e).outcome g answers)
             ≡ act_after Ends Agrees (machine_at r L) g answers e
         go list calls n (ended m) = refl
         go list calls n wanting = refl
@@ -191,7 +191,7 @@ module _ (shared : Shared) (s : Start) where
 
     -- and is not refused, where the host is fair
     pub not_refused :
-        KnownGiven g → FairHost shared r L g answers → NotRefused (step_at shared r L g answers).stepped.outcome
+        KnownGiven g → FairHost shared r L g answers → NotRefused (step_at shared r L g answers).outcome
     unfolding step_at step play_of
     not_refused k host =
         rw (given_known (machine_at r L) g k)
@@ -200,7 +200,7 @@ module _ (shared : Shared) (s : Start) where
       where
         go :
             (list : List ℕ) (calls : List Call) (n : ℕ) (e : Ending Machine) → NotRefusing e →
-            NotRefused (stepped (machine_at r L) list calls n e).stepped.outcome
+            NotRefused (stepped (machine_at r L) list calls n e).outcome
         go list calls n (ended m) h = tt
         go list calls n wanting h = tt
         go list calls n refusing h = h

@@ -45,7 +45,7 @@ passkey_enters r m e payload h = enters_again r m (input.Event e) payload (passk
 -- a transition that leaves the state: the step gives back the machine that it was given
 leaves :
     (r : Role) (m : Machine) (i : Input) (payload answers list : List ℕ) → transition_of r m i payload ≡ ret (ok m) →
-    (step r m i payload answers list).stepped.machine ≡ m
+    (step r m i payload answers list).machine ≡ m
 unfolding play_of
 leaves r m i payload answers list h =
     step_gives r m i payload answers list (λ x. x ≡ m) refl
@@ -54,12 +54,12 @@ leaves r m i payload answers list h =
 
 pub keypress_step :
     (r : Role) (m : Machine) (payload answers list : List ℕ) →
-    (step r m keypress payload answers list).stepped.machine ≡ m
+    (step r m keypress payload answers list).machine ≡ m
 keypress_step r m payload answers list =
     leaves r m keypress payload answers list (keypress_leaves r m payload)
 
 pub passkey_step :
     (r : Role) (m : Machine) (e : Event) (payload answers list : List ℕ) → Unawaited e m.phase →
-    (step r m (input.Event e) payload answers list).stepped.machine ≡ m
+    (step r m (input.Event e) payload answers list).machine ≡ m
 passkey_step r m e payload answers list h =
     leaves r m (input.Event e) payload answers list (passkey_leaves r m e payload h)

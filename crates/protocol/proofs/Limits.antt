@@ -35,8 +35,7 @@ use Rattle.protocol.specs.Handlers.{Handler, entered, enters, with_features, wit
 use Rattle.protocol.specs.LegacyCentral as central
 use Rattle.protocol.specs.LegacyPeripheral as peripheral
 use Rattle.protocol.specs.Step.{handle_input_by_role, play_of, step}
-use Rattle.protocol.specs.declared.Refusal.{Refusal}
-use Rattle.protocol.specs.declared.Outcome.TheVariants as outcome
+use Rattle.protocol.specs.Outcome as outcome
 use Rattle.protocol.proofs.StepLaws.{step_list, step_gives}
 use Rattle.protocol.proofs.Programs.{OfEnding}
 use Rattle.protocol.proofs.Bounds.{within_more, Within, Broken, FailsOnce, within_fails, PlaysWithin, plays_within}
@@ -90,7 +89,7 @@ most_octets r m i payload answers = (play_limits r m i payload answers).size
 -- the list is as it was
 pub written_front :
     (r : Role) (m : Machine) (i : Input) (payload answers list : List ℕ) → longest ≤ length list →
-    ((n : Refusal) → (step r m i payload answers list).stepped.outcome ≡ outcome.Refused n → ⊥) →
+    ((n : ℕ) → (step r m i payload answers list).outcome ≡ outcome.refused n → ⊥) →
     (step r m i payload answers list).list
     ≡ calls_octets (play_of r m i payload answers).calls
     ++ drop (length (calls_octets (play_of r m i payload answers).calls)) list
@@ -115,7 +114,7 @@ ending_more P Q f refusing h = tt
 -- a step leaves a canonical machine canonical, whatever comes of it
 pub canonical_step :
     (r : Role) (m : Machine) (i : Input) (payload answers list : List ℕ) → Canonical r m →
-    Canonical r (step r m i payload answers list).stepped.machine
+    Canonical r (step r m i payload answers list).machine
 canonical_step r m i payload answers list h =
     step_gives r m i payload answers list (Canonical r) h
     (ending_more (Stays r m) (Canonical r) (λ m₁ g. g h) (play_of r m i payload answers).ending

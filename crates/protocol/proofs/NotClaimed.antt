@@ -1,32 +1,38 @@
--- What demand 3 does not speak of, or speaks of in words that both ends share: laws of the definitions, with edits that
--- they refuse. (The answer's flags: Response. Where both type: Allowed. A refused step's counts, any list: StepLaws.)
+-- What demand 3 does not speak of, or speaks of in words that both ends share: laws of the definitions, each part with an
+-- edit that it refuses. (The answer's flags: Response. Where both type: Allowed. A refused step's counts, any list:
+-- StepLaws. Inputs that a state does not await: Awaited, Corners.)
 -- Assumes nothing.
-use Rattle.std.specs.Prelude.{Option, Some, None, Err}
+use Rattle.std.specs.Prelude.{Option, Some, None, Result, Err}
 use Prim.Native.Nat.{ℕ, ◌≤◌, ◌<◌}
 use mathlib.Core.Path.{◌≡◌, refl, ap, ◌∙◌}
 use mathlib.Core.Bool.{Bool, true, false, cond}
-use mathlib.Core.List.{List}
+use mathlib.Core.List.{List, ◌∷◌}
 use mathlib.Core.Logic.{◌⊎◌, inl, inr}
 use lib.ListN.{length, get_or}
 use native.Mathlib.Decide.{dec_lt}
 use native.Mathlib.Omega.{arith}
 use borrow.Author.Tests.{eq-eqb, ne_eqb, lt-ltb, le-ltb}
 use Rattle.octets.specs.Octets.{word_of}
-use Rattle.crypto.specs.Crypto.{c1_of}
+use Rattle.crypto.specs.Crypto.{c1_of, masked_of}
 use Rattle.crypto.specs.declared.crypto.Confirm.{Confirm}
+use Rattle.crypto.specs.declared.crypto.LongTermKey.{LongTermKey}
 use Rattle.crypto.specs.declared.crypto.Nonce.{Nonce}
 use Rattle.types.specs.declared.types.Command.TheVariants as command
+use Rattle.util.specs.Method.{security_level}
 use Rattle.bond.specs.Bond.{address_type, bd_addr_octets, verdict_error}
 use Rattle.bond.specs.declared.Address.{Address}
 use Rattle.bond.specs.declared.BondInformation.{BondInformation}
+use Rattle.bond.specs.declared.Error.{Error}
 use Rattle.bond.specs.declared.Error.TheVariants.{OutOfMemory, Host}
 use Rattle.host.specs.declared.call.Call.TheVariants as call
 use Rattle.host.specs.declared.call.ConnectionEvent.TheVariants as notice
+use Rattle.host.specs.declared.call.Question.TheVariants as question
 use Rattle.answer.specs.Answers.{found, address_body, encryption_body, bonded_body}
-use Rattle.machine.specs.Machine.{no_confirm_data, want_bonding}
+use Rattle.machine.specs.Machine.{no_confirm_data, want_bonding, result_of}
 use Rattle.machine.specs.declared.ConfirmPhaseData.{ConfirmPhaseData}
 use Rattle.machine.specs.declared.Event.TheVariants as event
 use Rattle.machine.specs.declared.Input.TheVariants as input
+use Rattle.machine.specs.declared.Machine.{Machine}
 use Rattle.machine.specs.declared.PairingData.{PairingData}
 use Rattle.machine.specs.declared.Phase.{Phase}
 use Rattle.machine.specs.declared.Phase.TheVariants as phase
@@ -34,7 +40,9 @@ use Rattle.machine.specs.declared.Role.{Role}
 use Rattle.machine.specs.declared.Role.TheVariants.{Central, Peripheral}
 use Rattle.protocol.specs.Program.{ret, ask}
 use Rattle.protocol.specs.Ops.{delivered, undelivered, delivery_of}
-use Rattle.protocol.specs.Handlers.{addr_type_flag, ◌>>=◌, ◌>>◌, give, on_option_bond, bonded_encryption, names_identity_key, word_in, enters, with_tk, with_bond, smaller, pass_key_tk, enter_bonded, enter_success, enter, store_confirm_bytes}
+use Rattle.protocol.specs.Handlers.{Handler, ◌>>=◌, ◌>>◌, give, fail, on_option_bond, identity_address, bonded_encryption, word_in, command_octets}
+use Rattle.protocol.specs.Handlers.{names_identity_key, enters, with_tk, with_bond, smaller, negotiated_key_size, pass_key_tk, addr_type_flag}
+use Rattle.protocol.specs.Handlers.{enter_bonded, enter_success, enter_phase, enter, store_confirm_bytes, enable_encryption}
 use Rattle.protocol.specs.LegacyCentral as central
 use Rattle.protocol.specs.LegacyPeripheral as peripheral
 use Rattle.protocol.proofs.Awaited.{transition_of}
@@ -62,6 +70,25 @@ kind_public a h = ap (λ b. cond b 0 1) (eq-eqb a.kind 0 h)
 pub kind_other : (a : Address) → (a.kind ≡ 0 → ⊥) → addr_type_flag a ≡ 1
 unfolding address_type
 kind_other a h = ap (λ b. cond b 0 1) (ne_eqb a.kind 0 h)
+
+-- command_octets, of which preq and pres are made, puts the code in front: 0x01 of a request, 0x02 of a response
+pub request_with_code : (payload : List ℕ) → command_octets command.PairingRequest payload ≡ 0x01 ∷ payload
+request_with_code payload = refl
+
+pub response_with_code : (payload : List ℕ) → command_octets command.PairingResponse payload ≡ 0x02 ∷ payload
+response_with_code payload = refl
+
+-- 0x3A has the key cut to the smaller maximum of both records, the method's level, and that size; where the host has an
+-- error for it, the pairing fails with that error
+pub encryption_called :
+    (d : PairingData) (stk : LongTermKey) →
+    let size = smaller d.peer_features.maximum_encryption_key_size d.local_features.maximum_encryption_key_size in
+    (then : Result BondInformation Error → Handler Machine)
+    × (enable_encryption d stk
+    ≡ ask (call.EnableEncryption (masked_of size stk) (security_level d.pairing_method) size) then)
+    × ((e : Error) → then (Err e) ≡ fail d e)
+unfolding enable_encryption negotiated_key_size
+encryption_called d stk = (_, refl, λ e. refl)
 
 -- c1 of a nonce, as an end computes it
 abbrev pub confirm_value_of : Role → ConfirmPhaseData → PairingData → Nonce → Confirm
@@ -110,6 +137,21 @@ module _ (body : List ℕ) (not_done : get_or body 0 0 ≡ 0 → ⊥) where
 
   pub bonded_encryption_refused : bonded_body body ≡ found (Err (verdict_error (get_or body 0 0)))
   bonded_encryption_refused = rw (ne_eqb (get_or body 0 0) 0 not_done) refl
+
+-- .. and the pairing fails with that error (to 0x3A: encryption_called)
+pub address_asked :
+    (d : PairingData) →
+    (then : Result Address Error → Handler Address)
+    × (identity_address d ≡ ask (call.Ask question.LocalIdentityAddress) then)
+    × ((e : Error) → then (Err e) ≡ fail d e)
+address_asked d = (_, refl, λ e. refl)
+
+pub bonded_encryption_asked :
+    (d : PairingData) →
+    (then : Result (Option BondInformation) Error → Handler (Option BondInformation))
+    × (bonded_encryption d ≡ ask call.EnableBondedEncryption then)
+    × ((e : Error) → then (Err e) ≡ fail d e)
+bonded_encryption_asked d = (_, refl, λ e. refl)
 
 -- ---- a bonded reconnect: 0x3B is asked, then the identity key is awaited where it is named, else it is Success
 
@@ -161,6 +203,26 @@ module _ (c : ConfirmPhaseData) (d : PairingData) (payload : List ℕ) (n : ℕ)
       (λ c₁. ◌>>◌ (central.send_mrand c₁ d) (give (enters (phase.WaitingPairingRandom confirm) c₁ d)))
   unfolding central.transition central.handle_pass_key_input
   early_confirm_at_the_terminal = refl
+
+-- ---- a state that is neither Success nor Error is entered without a call
+
+pub no_entry_call : (m : Machine) → result_of m.phase ≡ None → enter m ≡ ret m
+unfolding enter
+no_entry_call m h = go m.phase h
+  where
+    go : (p : Phase) → result_of p ≡ None → enter_phase m p ≡ ret m
+    go phase.WaitingPairingRequest h = refl
+    go phase.WaitingPairingResponse h = refl
+    go (phase.WaitingPassKeyInput b) h = refl
+    go phase.WaitingOobData h = refl
+    go phase.WaitingPairingConfirm h = refl
+    go (phase.WaitingPairingRandom c) h = refl
+    go phase.WaitingLinkEncrypted h = refl
+    go phase.WaitingIdentitityInformation h = refl
+    go phase.WaitingIdentitityAddressInformation h = refl
+    go (phase.ReceivingKeys n k) h = refl
+    go phase.Success h = cc
+    go (phase.Error e) h = cc
 
 -- ---- Success is entered with the machine's bond
 

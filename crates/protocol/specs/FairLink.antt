@@ -23,8 +23,8 @@ use Rattle.machine.specs.declared.Machine.{Machine}
 use Rattle.machine.specs.declared.PairingData.{PairingData}
 use Rattle.machine.specs.declared.Role.{Role}
 use Rattle.machine.specs.declared.Role.TheVariants.{Central, Peripheral}
-use Rattle.protocol.specs.declared.Outcome.{Outcome}
-use Rattle.protocol.specs.declared.Outcome.TheVariants as outcome
+use Rattle.protocol.specs.Outcome.{StepOutcome}
+use Rattle.protocol.specs.Outcome as outcome
 use Rattle.protocol.specs.Program.{ret, ask, Taken, got, wants, refused}
 use Rattle.protocol.specs.Ops.{delivered, Sort, a_verdict, a_flag, an_irk, an_address, a_nonce, a_pass_key, an_ltk, an_ediv, a_rand, a_bond, an_option_bond, Holds, reply_sort, reply_at, Program}
 use Rattle.protocol.specs.Handlers.{names_encryption_key, names_identity_key}
@@ -266,10 +266,10 @@ pub record FairHost (shared : Shared) (r : Role) (L : Link) (g : Given) (answers
   pub fair : FairAnswers shared (handle_input_by_role r (machine_at r L) (input_of shared (machine_at r L) g) (payload_of g)) answers 0
 
 -- a step that wants is open, with its input and answers
-abbrev pub open_after : Outcome → Given → List ℕ → Option OpenStep
-open_after outcome.Ended g answers = None
-open_after outcome.Wants g answers = Some (record { given = g; answers = answers })
-open_after (outcome.Refused n) g answers = None
+abbrev pub open_after : StepOutcome → Given → List ℕ → Option OpenStep
+open_after outcome.ended g answers = None
+open_after outcome.wants g answers = Some (record { given = g; answers = answers })
+open_after (outcome.refused n) g answers = None
 
 abbrev pub had_oob_after : Given → Bool → Bool
 had_oob_after (a_packet p) had = had
@@ -282,10 +282,10 @@ had_oob_after (an_event encryption_on) had = had
 abbrev pub end_after : Shared → Role → Link → Given → List ℕ → List QueuedPacket → List Due → List Call → End
 end_after shared r L g answers queue due new =
     record {
-      machine = (step_at shared r L g answers).stepped.machine;
+      machine = (step_at shared r L g answers).machine;
       queue = queue;
       due = due ++ made_due_by_all (end_of r L).calls new;
-      open_step = open_after (step_at shared r L g answers).stepped.outcome g answers;
+      open_step = open_after (step_at shared r L g answers).outcome g answers;
       calls = (end_of r L).calls ++ new;
       had_oob = had_oob_after g (end_of r L).had_oob;
     }
@@ -357,11 +357,11 @@ pub data Move (shared : Shared) (L : Link) : MoveKind → Link → Type 0 where
       (drop (length (calls_at shared r L g kept)) (calls_at shared r L g (kept ++ (x ∷ added)))))
 
 -- the outcome of its step
-abbrev pub outcome_of : {shared : Shared} {L L₁ : Link} {k : MoveKind} → Move shared L k L₁ → Outcome
-outcome_of {shared} {L} (take_packet r p queue answers o q d f) = (step_at shared r L (a_packet p) answers).stepped.outcome
+abbrev pub outcome_of : {shared : Shared} {L L₁ : Link} {k : MoveKind} → Move shared L k L₁ → StepOutcome
+outcome_of {shared} {L} (take_packet r p queue answers o q d f) = (step_at shared r L (a_packet p) answers).outcome
 outcome_of {shared} {L} (take_event r e earlier later answers o q d f) =
-    (step_at shared r L (an_event e) answers).stepped.outcome
-outcome_of {shared} {L} (run_again r g kept x added o f) = (step_at shared r L g (kept ++ (x ∷ added))).stepped.outcome
+    (step_at shared r L (an_event e) answers).outcome
+outcome_of {shared} {L} (run_again r g kept x added o f) = (step_at shared r L g (kept ++ (x ∷ added))).outcome
 
 -- ---- Lists of moves, and runs
 

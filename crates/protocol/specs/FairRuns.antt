@@ -28,11 +28,10 @@ use Rattle.machine.specs.declared.Machine.{Machine}
 use Rattle.machine.specs.declared.Phase.TheVariants as phase
 use Rattle.machine.specs.declared.Role.{Role}
 use Rattle.machine.specs.declared.Role.TheVariants.{Central, Peripheral}
-use Rattle.protocol.specs.declared.Outcome.{Outcome}
-use Rattle.protocol.specs.declared.Outcome.TheVariants as outcome
-use Rattle.protocol.specs.declared.Stepped.{Stepped}
+use Rattle.protocol.specs.Outcome.{StepOutcome}
+use Rattle.protocol.specs.Outcome as outcome
 use Rattle.protocol.specs.Handlers.{names_encryption_key, names_identity_key, smaller}
-use Rattle.protocol.specs.Step.{step}
+use Rattle.protocol.specs.Step.{Step, step}
 use Rattle.protocol.specs.FairLink.{Start, FairStart, Shared, Link, end_of, fresh_link, of_all, MoveKind, Move, outcome_of, Moves, Run, Idle}
 
 -- ---- entries: 1 where the method has one end type, 2 where it has both type or is OOB, else 0
@@ -156,9 +155,9 @@ AreAll n (x ∷ l) = (x ≡ n) × AreAll n l
 -- ---- how the ends stand
 
 -- a step of a head on an IdentityInformation, 0x08
-abbrev pub on_identity_information : Machine → List ℕ → Stepped
+abbrev pub on_identity_information : Machine → List ℕ → Step
 on_identity_information m payload =
-    (step Peripheral m (input.Command (command_code command.IdentityInformation)) payload [] (replicate longest 0)).stepped
+    step Peripheral m (input.Command (command_code command.IdentityInformation)) payload [] (replicate longest 0)
 
 -- the head waits for the identity key: it is in neither Success nor Error, and would read an IdentityInformation as that
 -- key, so that its bond would have it
@@ -167,7 +166,7 @@ pub record WaitsForIdentityKey (m : Machine) : Type 0 where
   pub reads :
       (payload : List ℕ) → length payload ≡ 16 →
       let s = on_identity_information m payload in
-      (s.outcome ≡ outcome.Ended)
+      (s.outcome ≡ outcome.ended)
       × ((b : BondInformation) × (s.machine.pairing_data.bond_information ≡ Some b)
       × (b.identity.irk.0 ≡ word_of payload))
 
@@ -268,10 +267,10 @@ pub record RunEnds (shared : Shared) (request : PairingFeatures) (inputs : ℕ) 
       SameBonds (negotiated request answer) (ltks_in L.head.calls) (ediv_rands_in L.head.calls)
       L.terminal.machine L.head.machine
 
-abbrev pub NotRefused : Outcome → Type 0
-NotRefused outcome.Ended = Unit {0}
-NotRefused outcome.Wants = Unit {0}
-NotRefused (outcome.Refused n) = ⊥
+abbrev pub NotRefused : StepOutcome → Type 0
+NotRefused outcome.ended = Unit {0}
+NotRefused outcome.wants = Unit {0}
+NotRefused (outcome.refused n) = ⊥
 
 -- every run from a start ends, with this bound. (A run itself is a list of allowed moves after which none is allowed:
 -- FairLink.)

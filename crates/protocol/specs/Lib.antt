@@ -6,4 +6,4 @@ pub mod LegacyCentral
 pub mod Step
 pub mod FairLink
 pub mod FairRuns
-pub mod Refusals
+pub mod Outcome

@@ -3,7 +3,7 @@
 #![tactic(auto)]
 
 ghost use Rattle.std.specs.Prelude.{◌≡◌};
-ghost use Rattle.protocol.specs.Refusals.{refusal_number};
+ghost use Rattle.protocol.specs.Outcome.{refusal_number};
 
 use machine::Machine;
 

@@ -262,9 +262,9 @@ abbrev pub any_size_answer : Result PairingFeatures InvalidValue → Answer Pair
 any_size_answer r = answer_of (λ e. 5) r
 
 -- the number by which an error of reading refuses
-abbrev pub refusal_number : Error → ℕ
-refusal_number codec.InsufficientSpace = 4
-refusal_number codec.InvalidValue = 5
+abbrev pub codec_refusal : Error → ℕ
+codec_refusal codec.InsufficientSpace = 4
+codec_refusal codec.InvalidValue = 5
 
 abbrev pub decoded_answer : Result PairingFeatures Error → Answer PairingFeatures
-decoded_answer r = answer_of refusal_number r
+decoded_answer r = answer_of codec_refusal r

@@ -5,6 +5,4 @@ pub mod connection;
 pub mod util;
 
 pub use connection::SecurityLevel;
-pub use util::{
-    PairingMethod, PassKeyEntryAction, choose_legacy_pairing_method, legacy_pairing_method,
-};
+pub use util::{PairingMethod, PassKeyEntryAction, choose_legacy_pairing_method};

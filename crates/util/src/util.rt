@@ -72,13 +72,6 @@ pub fn choose_legacy_pairing_method(
     }
 }
 
-// The same choice, for callers that need its definition alone and not the five methods.
-pub fn legacy_pairing_method(central: PairingFeatures, peripheral: PairingFeatures) -> PairingMethod
-    ensures { result ≡ legacy_method central peripheral }
-{
-    choose_legacy_pairing_method(central, peripheral)
-}
-
 // The method by the I/O capabilities of both sides
 fn method_of_io(central: IoCapabilities, peripheral: IoCapabilities) -> PairingMethod
     ensures { result ≡ io_method central peripheral }
