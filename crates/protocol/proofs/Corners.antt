@@ -4,7 +4,7 @@
 use Rattle.std.specs.Prelude.{Option, Some}
 use Prim.Native.Nat.{ℕ, ◌<◌, ◌≤◌}
 use mathlib.Core.Path.{◌≡◌, refl, ◌∙◌}
-use mathlib.Core.Bool.{false}
+use mathlib.Core.Bool.{Bool, false}
 use mathlib.Core.List.{List, [], ◌∷◌}
 use lib.Dec.{eqb}
 use lib.ListN.{length, get_or, take, drop}
@@ -18,7 +18,6 @@ use Rattle.types.specs.declared.types.Command.{Command}
 use Rattle.types.specs.declared.types.Command.TheVariants as command
 use Rattle.types.specs.declared.types.Reason.TheVariants as reason
 use Rattle.bond.specs.declared.Address.{Address}
-use Rattle.bond.specs.declared.Error.{Error}
 use Rattle.bond.specs.declared.Error.TheVariants.{Security, InvalidState, InvalidValue}
 use Rattle.host.specs.declared.call.Question.TheVariants as question
 use Rattle.machine.specs.Machine.{no_confirm_data, want_bonding}
@@ -36,7 +35,7 @@ use Rattle.protocol.specs.Handlers.{◌>>=◌, ◌>>◌, give, fail, asked, word
 use Rattle.protocol.specs.Handlers.{enters, with_identity_address, other_input, store_confirm_bytes}
 use Rattle.protocol.specs.LegacyCentral as central
 use Rattle.protocol.specs.LegacyPeripheral as peripheral
-use Rattle.protocol.proofs.Awaited.{transition_of, same_ways, awaited_packet, IsOther, other_packets, NotAwaited, not_awaited}
+use Rattle.protocol.proofs.Awaited.{transition_of, awaits, other_inputs, failure, awaits_none}
 
 abbrev pub standing : Phase → ConfirmPhaseData → PairingData → Machine
 standing p c d = record { phase = p; confirm_data = c; pairing_data = d }
@@ -89,15 +88,6 @@ module _ (c : ConfirmPhaseData) (d : PairingData) (payload : List ℕ) where
       peripheral.handle_central_identification identification_in
   identification_short Central ltk h = rw (lt-ltb (length payload) 10 h)
   identification_short Peripheral ltk h = rw (lt-ltb (length payload) 10 h)
-
-  -- .. it is awaited behind the key, and not before it
-  pub identification_before_the_key :
-      (r : Role) (ltk : LongTermKey) →
-      transition_of r (standing (phase.ReceivingKeys 0 ltk) c d) (received command.CentralIdentification) payload
-      ≡ fail d InvalidState
-  unfolding central.transition peripheral.transition other_input
-  identification_before_the_key Central ltk = refl
-  identification_before_the_key Peripheral ltk = refl
 
   -- .. longer is read by its first 10
   pub identification_long :
@@ -157,108 +147,53 @@ module _ (c : ConfirmPhaseData) (d : PairingData) (payload : List ℕ) where
 -- ---- LinkEncryptedResult(false): KeyRejected at the head in WaitingLinkEncrypted and WaitingPairingRequest,
 -- ConfirmValueFailed at the terminal in WaitingLinkEncrypted, InvalidState elsewhere
 
-abbrev pub not_encrypted : Role → Phase → Error
-not_encrypted Peripheral phase.WaitingPairingRequest = Security reason.KeyRejected
-not_encrypted Peripheral phase.WaitingLinkEncrypted = Security reason.KeyRejected
-not_encrypted Peripheral phase.WaitingPairingResponse = InvalidState
-not_encrypted Peripheral (phase.WaitingPassKeyInput b) = InvalidState
-not_encrypted Peripheral phase.WaitingOobData = InvalidState
-not_encrypted Peripheral phase.WaitingPairingConfirm = InvalidState
-not_encrypted Peripheral (phase.WaitingPairingRandom v) = InvalidState
-not_encrypted Peripheral phase.WaitingIdentitityInformation = InvalidState
-not_encrypted Peripheral phase.WaitingIdentitityAddressInformation = InvalidState
-not_encrypted Peripheral (phase.ReceivingKeys n k) = InvalidState
-not_encrypted Peripheral phase.Success = InvalidState
-not_encrypted Peripheral (phase.Error e) = InvalidState
-not_encrypted Central phase.WaitingLinkEncrypted = Security reason.ConfirmValueFailed
-not_encrypted Central phase.WaitingPairingRequest = InvalidState
-not_encrypted Central phase.WaitingPairingResponse = InvalidState
-not_encrypted Central (phase.WaitingPassKeyInput b) = InvalidState
-not_encrypted Central phase.WaitingOobData = InvalidState
-not_encrypted Central phase.WaitingPairingConfirm = InvalidState
-not_encrypted Central (phase.WaitingPairingRandom v) = InvalidState
-not_encrypted Central phase.WaitingIdentitityInformation = InvalidState
-not_encrypted Central phase.WaitingIdentitityAddressInformation = InvalidState
-not_encrypted Central (phase.ReceivingKeys n k) = InvalidState
-not_encrypted Central phase.Success = InvalidState
-not_encrypted Central (phase.Error e) = InvalidState
+abbrev no_link : Input
+no_link = input.Event (event.LinkEncryptedResult false)
 
-pub link_not_encrypted :
-    (r : Role) (p : Phase) (c : ConfirmPhaseData) (d : PairingData) (payload : List ℕ) →
-    transition_of r (standing p c d) (input.Event (event.LinkEncryptedResult false)) payload ≡ fail d (not_encrypted r p)
-unfolding central.transition peripheral.transition other_input
-link_not_encrypted Peripheral phase.WaitingPairingRequest c d payload = refl
-link_not_encrypted Peripheral phase.WaitingLinkEncrypted c d payload = refl
-link_not_encrypted Peripheral phase.WaitingPairingResponse c d payload = refl
-link_not_encrypted Peripheral (phase.WaitingPassKeyInput b) c d payload = refl
-link_not_encrypted Peripheral phase.WaitingOobData c d payload = refl
-link_not_encrypted Peripheral phase.WaitingPairingConfirm c d payload = refl
-link_not_encrypted Peripheral (phase.WaitingPairingRandom v) c d payload = refl
-link_not_encrypted Peripheral phase.WaitingIdentitityInformation c d payload = refl
-link_not_encrypted Peripheral phase.WaitingIdentitityAddressInformation c d payload = refl
-link_not_encrypted Peripheral (phase.ReceivingKeys n k) c d payload = same_ways (eqb n 0) (eqb n 1) _
-link_not_encrypted Peripheral phase.Success c d payload = refl
-link_not_encrypted Peripheral (phase.Error e) c d payload = refl
-link_not_encrypted Central phase.WaitingLinkEncrypted c d payload = refl
-link_not_encrypted Central phase.WaitingPairingRequest c d payload = refl
-link_not_encrypted Central phase.WaitingPairingResponse c d payload = refl
-link_not_encrypted Central (phase.WaitingPassKeyInput b) c d payload = refl
-link_not_encrypted Central phase.WaitingOobData c d payload = refl
-link_not_encrypted Central phase.WaitingPairingConfirm c d payload = refl
-link_not_encrypted Central (phase.WaitingPairingRandom v) c d payload = refl
-link_not_encrypted Central phase.WaitingIdentitityInformation c d payload = refl
-link_not_encrypted Central phase.WaitingIdentitityAddressInformation c d payload = refl
-link_not_encrypted Central (phase.ReceivingKeys n k) c d payload = same_ways (eqb n 0) (eqb n 1) _
-link_not_encrypted Central phase.Success c d payload = refl
-link_not_encrypted Central (phase.Error e) c d payload = refl
+module _ (c : ConfirmPhaseData) (d : PairingData) (payload : List ℕ) where
+  pub no_link_before_the_request :
+      peripheral.transition (standing phase.WaitingPairingRequest c d) no_link payload
+      ≡ fail d (Security reason.KeyRejected)
+  unfolding peripheral.transition
+  no_link_before_the_request = refl
 
--- ---- Success and Error await nothing
+  pub no_link_at_the_head :
+      peripheral.transition (standing phase.WaitingLinkEncrypted c d) no_link payload
+      ≡ fail d (Security reason.KeyRejected)
+  unfolding peripheral.transition
+  no_link_at_the_head = refl
 
-module _ (r : Role) (c : ConfirmPhaseData) (d : PairingData) (payload : List ℕ) (i : Input) where
-  pub success_awaits_nothing :
-      let m = standing phase.Success c d in transition_of r m i payload ≡ other_input m payload i
-  unfolding central.transition peripheral.transition
-  success_awaits_nothing = by_role r
-    where
-      by_role : (r : Role) →
-          let m = standing phase.Success c d in transition_of r m i payload ≡ other_input m payload i
-      by_role Central = refl
-      by_role Peripheral = refl
+  pub no_link_at_the_terminal :
+      central.transition (standing phase.WaitingLinkEncrypted c d) no_link payload
+      ≡ fail d (Security reason.ConfirmValueFailed)
+  unfolding central.transition
+  no_link_at_the_terminal = refl
 
-  pub error_awaits_nothing :
-      (e : Error) → let m = standing (phase.Error e) c d in transition_of r m i payload ≡ other_input m payload i
-  unfolding central.transition peripheral.transition
-  error_awaits_nothing e = by_role r
-    where
-      by_role : (r : Role) →
-          let m = standing (phase.Error e) c d in transition_of r m i payload ≡ other_input m payload i
-      by_role Central = refl
-      by_role Peripheral = refl
+-- ---- an input that the state does not await is InvalidState: a report on encryption, OOB data, and a packet, but for
+-- PairingFailed and a KeypressNotification
 
--- ---- a packet that the state does not await is InvalidState, but for PairingFailed and a KeypressNotification
+module _ (r : Role) (m : Machine) (payload : List ℕ) where
+  pub unawaited_report :
+      (b : Bool) → let i = input.Event (event.LinkEncryptedResult b) in
+      awaits r m.phase i ≡ false → transition_of r m i payload ≡ fail m.pairing_data InvalidState
+  unfolding other_input
+  unawaited_report b h = other_inputs r m (input.Event (event.LinkEncryptedResult b)) payload h
 
-pub unawaited_packet :
-    (r : Role) (m : Machine) (code : ℕ) (payload : List ℕ) → IsOther code (awaited_packet r m.phase) →
-    eqb code (command_code command.KeypressNotification) ≡ false →
-    eqb code (command_code command.PairingFailed) ≡ false →
-    transition_of r m (input.Command code) payload ≡ fail m.pairing_data InvalidState
-unfolding other_input
-unawaited_packet r m code payload o h k = other_packets r m code payload o ∙ rw (h, k) refl
+  pub unawaited_oob_data :
+      (w : ℕ) → let i = input.Event (event.OobDataReceived w) in
+      awaits r m.phase i ≡ false → transition_of r m i payload ≡ fail m.pairing_data InvalidState
+  unfolding other_input
+  unawaited_oob_data w h = other_inputs r m (input.Event (event.OobDataReceived w)) payload h
+
+  pub unawaited_packet :
+      (code : ℕ) → let i = input.Command code in
+      awaits r m.phase i ≡ false → eqb code (command_code command.KeypressNotification) ≡ false →
+      eqb code (command_code command.PairingFailed) ≡ false →
+      transition_of r m i payload ≡ fail m.pairing_data InvalidState
+  unfolding other_input
+  unawaited_packet code h k l = other_inputs r m (input.Command code) payload h ∙ rw (k, l) refl
 
 -- ---- PairingFailed from the peer, in any state: an empty one gives UnspecifiedReason, another the reason of its first octet
-
-failed_not_awaited : NotAwaited (command_code command.PairingFailed)
-failed_not_awaited =
-    record {
-      request = refl;
-      response = refl;
-      confirm = refl;
-      random = refl;
-      encryption = refl;
-      identification = refl;
-      identity = refl;
-      address = refl;
-    }
 
 pub failed_empty :
     (r : Role) (m : Machine) →
@@ -266,11 +201,11 @@ pub failed_empty :
     ≡ fail m.pairing_data (Security reason.UnspecifiedReason)
 unfolding other_input reason_in
 failed_empty r m =
-    not_awaited r m (command_code command.PairingFailed) [] failed_not_awaited
+    other_inputs r m failure [] (awaits_none r m.phase).no_failure
 
 pub failed_with_reason :
     (r : Role) (m : Machine) (x : ℕ) (payload : List ℕ) →
     transition_of r m (received command.PairingFailed) (x ∷ payload) ≡ fail m.pairing_data (Security (reason_of x))
 unfolding other_input reason_in
 failed_with_reason r m x payload =
-    not_awaited r m (command_code command.PairingFailed) (x ∷ payload) failed_not_awaited
+    other_inputs r m failure (x ∷ payload) (awaits_none r m.phase).no_failure

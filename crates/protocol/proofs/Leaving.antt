@@ -2,6 +2,7 @@
 -- given, in every part. It enters that state again, so in Success or Error the calls are made again. Assumes nothing.
 use Prim.Native.Nat.{ℕ}
 use mathlib.Core.Path.{ap, ◌≡◌, refl, sym, subst}
+use mathlib.Core.Bool.{false}
 use mathlib.Core.List.{List}
 use Rattle.machine.specs.declared.Event.{Event}
 use Rattle.machine.specs.declared.Input.{Input}
@@ -19,7 +20,7 @@ use Rattle.protocol.proofs.Bounds.{Broken, plays_within}
 use Rattle.protocol.specs.Ops.{reply_at, Program}
 use Rattle.protocol.proofs.HandlerBounds.{enter_within}
 use Rattle.protocol.proofs.StepLaws.{step_gives}
-use Rattle.protocol.proofs.Awaited.{transition_of, keypress, keypress_leaves, Unawaited, passkey_leaves}
+use Rattle.protocol.proofs.Awaited.{transition_of, awaits, keypress, keypress_leaves, IsPassKey, passkey_leaves}
 
 -- entering a state gives its machine
 entering : (m : Machine) (answers : List ℕ) → OfEnding (λ x. x ≡ m) (play reply_at answers (enter m) 0).ending
@@ -38,9 +39,9 @@ pub keypress_enters : (r : Role) (m : Machine) (payload : List ℕ) → handle_i
 keypress_enters r m payload = enters_again r m keypress payload (keypress_leaves r m payload)
 
 pub passkey_enters :
-    (r : Role) (m : Machine) (e : Event) (payload : List ℕ) → Unawaited e m.phase →
+    (r : Role) (m : Machine) (e : Event) (payload : List ℕ) → IsPassKey e → awaits r m.phase (input.Event e) ≡ false →
     handle_input_by_role r m (input.Event e) payload ≡ enter m
-passkey_enters r m e payload h = enters_again r m (input.Event e) payload (passkey_leaves r m e payload h)
+passkey_enters r m e payload k h = enters_again r m (input.Event e) payload (passkey_leaves r m e payload k h)
 
 -- a transition that leaves the state: the step gives back the machine that it was given
 leaves :
@@ -59,7 +60,7 @@ keypress_step r m payload answers list =
     leaves r m keypress payload answers list (keypress_leaves r m payload)
 
 pub passkey_step :
-    (r : Role) (m : Machine) (e : Event) (payload answers list : List ℕ) → Unawaited e m.phase →
+    (r : Role) (m : Machine) (e : Event) (payload answers list : List ℕ) → IsPassKey e → awaits r m.phase (input.Event e) ≡ false →
     (step r m (input.Event e) payload answers list).machine ≡ m
-passkey_step r m e payload answers list h =
-    leaves r m (input.Event e) payload answers list (passkey_leaves r m e payload h)
+passkey_step r m e payload answers list k h =
+    leaves r m (input.Event e) payload answers list (passkey_leaves r m e payload k h)
