@@ -2,7 +2,7 @@
 -- Addresses, errors and bonds, and the octets that document 01 gives them ("Paired or failed"). Assumes nothing.
 use Rattle.std.specs.Prelude.{ℕ, Bool, true, false, cond, List, [], ◌∷◌, ◌++◌, eqb, get_or, take, drop, replicate, Option, Some, None, is_some, Result, Ok, Err}
 use Rattle.octets.specs.Octets.{from_octets, to_octets, octets_of, word_of}
-use Rattle.types.specs.Types.{reason_code}
+use Rattle.smp_types.specs.Types.{reason_code}
 use Rattle.bond.specs.declared.BdAddr.{BdAddr}
 use Rattle.bond.specs.declared.Address.{Address}
 use Rattle.bond.specs.declared.Error.{Error}

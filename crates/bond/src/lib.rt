@@ -7,7 +7,7 @@ ghost use Rattle.bond.specs.Bond.{failed_body, verdict_error, verdict_result, fl
 
 use crypto::{IdentityResolvingKey, LongTermKey};
 use octets::{Number, octets_at, write};
-use types::Reason;
+use smp_types::Reason;
 
 // A device address of six octets: `low + 2^32 * high`. Two numbers and no array, so that in the definitions, too, every
 // value is an address: an array stands there as a list of any length.

@@ -5,7 +5,7 @@ use Rattle.octets.specs.Octets.{octets_of, word_of, word_be}
 use Rattle.aes.specs.Gf.{xtime, product, times, squares, inverse, bit, affine_bit, from_bits, affine, sub_byte}
 use Rattle.crypto.specs.Crypto.{cut, masked_of, non_zero, drawn_nonce}
 use Rattle.crypto.proofs.Cutting.{masked_whole}
-use Rattle.types.specs.Types.{features_of}
+use Rattle.smp_types.specs.Types.{features_of}
 use Rattle.util.specs.Method.{legacy_method}
 use Rattle.cases.specs.Cases.{method_for, read_and_written, cut_to, Cases}
 

@@ -7,8 +7,8 @@ use Rattle.octets.specs.Octets.{octets_of, word_of}
 use Rattle.aes.specs.Gf.{sub_byte}
 use Rattle.crypto.specs.declared.crypto.LongTermKey.{LongTermKey}
 use Rattle.crypto.specs.Crypto.{masked_of, drawn_nonce}
-use Rattle.types.specs.declared.types.Reason.TheVariants.{UnspecifiedReason, Busy}
-use Rattle.types.specs.Types.{reason_of, feature_octets, features_of}
+use Rattle.smp_types.specs.declared.types.Reason.TheVariants.{UnspecifiedReason, Busy}
+use Rattle.smp_types.specs.Types.{reason_of, feature_octets, features_of}
 use Rattle.util.specs.declared.util.PairingMethod.{PairingMethod}
 use Rattle.util.specs.declared.util.PairingMethod.TheVariants.{JustWorks}
 use Rattle.util.specs.Method.{CENTRAL_DISPLAYS, BOTH_INPUT, legacy_method}

@@ -6,23 +6,23 @@ ghost use Rattle.machine.specs.declared.PairingData.{PairingData};
 ghost use Rattle.protocol.specs.Handlers.{names_encryption_key, send_encryption_key};
 ghost use Rattle.protocol.specs.LegacyCentral.{confirm_value, send_all_keys, send_mconfirm, send_mrand, answer_confirm};
 ghost use Rattle.protocol.specs.LegacyCentral.{begin_confirm, begin_method, handle_pairing_random};
-ghost use Rattle.ops.specs.Run.{run};
-ghost use Rattle.handlers.specs.Outcomes.{ran_data, ran_machine, ran_nonce, ran_try};
+ghost use Rattle.host_ops.specs.Run.{run};
+ghost use Rattle.handler_parts.specs.Outcomes.{ran_data, ran_machine, ran_nonce, ran_try};
 ghost use Rattle.central_helpers.specs.Responses.{display_pass_key};
 
 use bond::Error;
 use crypto::{Confirm, Nonce, c1, s1};
-use handlers::keys::{draw_keys, send_identity_keys};
-use handlers::packet::{
+use handler_parts::keys::{draw_keys, send_identity_keys};
+use handler_parts::packet::{
     make_central_identification_packet, make_confirm_packet, make_encryption_information_packet,
     make_pairing_random,
 };
-use handlers::payload::read_payload_word;
-use host::ConnectionEvent;
+use handler_parts::payload::read_payload_word;
+use handlers::{confirm_phase_data, enable_encryption, request_oob_data, request_pass_key};
+use host_calls::ConnectionEvent;
+use host_ops::{Halt, Ops};
 use machine::{Machine, Phase};
-use ops::{Halt, Ops};
-use phases::{confirm_phase_data, enable_encryption, request_oob_data, request_pass_key};
-use types::{KeyDistributionFlags, Reason};
+use smp_types::{KeyDistributionFlags, Reason};
 use util::{PairingMethod, PassKeyEntryAction};
 
 // c1 of a nonce: this end is the initiator.
@@ -67,7 +67,7 @@ pub fn answer_confirm(
 }
 
 // Sends all of the initiator's keys at once: those that the response names.
-#[tactic(auto, using(ops::proofs::Laws::run_bind), unfolding(protocol::specs::LegacyCentral::send_all_keys))]
+#[tactic(auto, using(host_ops::proofs::Laws::run_bind), unfolding(protocol::specs::LegacyCentral::send_all_keys))]
 pub fn send_all_keys(ops: &mut Ops<'_>, machine: &mut Machine) -> Result<(), Halt>
     ensures ran { ran_machine ops.new.trace machine.new result ≡ run ops.old.answers.now (send_all_keys machine.old.pairing_data) ops.old.trace }
     ensures answers { ops.new.answers ≡ ops.old.answers }

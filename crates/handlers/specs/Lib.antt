@@ -1,3 +1,1 @@
-pub mod Outcomes
-pub mod Inputs
-pub mod Keys
+pub mod Phases

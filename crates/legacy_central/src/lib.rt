@@ -1,5 +1,5 @@
 // legacy_central.rs: the initiator's machine. Each function of the Rust has one of its name here or in the crate
-// central_helpers. What legacy_peripheral.rs has in the same words stands in the crate phases: `enter`,
+// central_helpers. What legacy_peripheral.rs has in the same words stands in the crate handlers: `enter`,
 // `store_confirm_bytes`, `handle_encryption_information`, `handle_identity_information`.
 #![tactic(auto)]
 
@@ -9,32 +9,32 @@ ghost use Rattle.protocol.specs.Handlers.{on_receiving_keys, other_input, handle
 ghost use Rattle.protocol.specs.LegacyCentral.{await_identity_or_send, handle_link_encrypted_success, handle_peer_confirm, handle_pass_key_input};
 ghost use Rattle.protocol.specs.LegacyCentral.{handle_pairing_response, handle_central_identification, handle_identity_address_information};
 ghost use Rattle.protocol.specs.LegacyCentral.{transition_from, transition, handle_input};
-ghost use Rattle.ops.specs.Run.{run};
-ghost use Rattle.handlers.specs.Outcomes.{ran_machine, ran_entered};
+ghost use Rattle.host_ops.specs.Run.{run};
+ghost use Rattle.handler_parts.specs.Outcomes.{ran_machine, ran_entered};
 
-use answer::Stop;
 use bond::Error;
 use central_helpers::{
     answer_confirm, begin_confirm, begin_method, handle_pairing_random, send_all_keys,
     send_mconfirm,
 };
 use crypto::{Confirm, LongTermKey, Nonce};
-use handlers::input::{Received, other_input};
-use handlers::keys::{EncryptionKeys, with_identity_address, with_keys};
-use handlers::payload::{
+use handler_parts::input::{Received, other_input};
+use handler_parts::keys::{EncryptionKeys, with_identity_address, with_keys};
+use handler_parts::payload::{
     command_octets, read_features, read_identification, read_identity_address, read_payload_word,
 };
+use handlers::{handle_encryption_information, settle, store_confirm_bytes, waiting_identity};
+use host_answers::Stop;
+use host_ops::{Halt, Ops};
 use machine::{ConfirmPhaseData, Machine, Phase};
 use octets::octets_at;
-use ops::{Halt, Ops};
-use phases::{handle_encryption_information, settle, store_confirm_bytes, waiting_identity};
-use types::{Command, Reason};
+use smp_types::{Command, Reason};
 use util::choose_legacy_pairing_method;
 
 // --- FSM core ---
 
 // One input: the transition, then the calls on entering the state that it gives.
-#[tactic(auto, using(ops::proofs::Laws::run_bind), unfolding(protocol::specs::LegacyCentral::handle_input))]
+#[tactic(auto, using(host_ops::proofs::Laws::run_bind), unfolding(protocol::specs::LegacyCentral::handle_input))]
 pub fn handle_input(
     ops: &mut Ops<'_>,
     machine: &mut Machine,

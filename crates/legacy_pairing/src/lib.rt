@@ -1,4 +1,4 @@
-// The functions of the static library: C names for octet_steps and octet_values. include/legacy_pairing.h declares them
+// The functions of the static library: C names for c_steps and c_values. include/legacy_pairing.h declares them
 // for C, bindings/rust is a safe crate over them. Octet strings run least significant octet first, as on the air.
 // Numbers for roles, inputs and results, a slice for each string of octets, and references for what else is given back,
 // are what C can take.
@@ -6,10 +6,10 @@
 
 ghost use Rattle.std.specs.Prelude.{◌≡◌};
 ghost use Rattle.std.specs.Result.{MatchResult};
-ghost use Rattle.octet_values.specs.Values.{wrote, read_features_on, write_features_on, c1_on, s1_on, counted, count_on, call_left, call_on};
-ghost use Rattle.octet_steps.specs.Steps.{step_left, step_on, new_on};
+ghost use Rattle.c_values.specs.Values.{wrote, read_features_on, write_features_on, c1_on, s1_on, counted, count_on, call_left, call_on};
+ghost use Rattle.c_steps.specs.Steps.{step_left, step_on, new_on};
 
-use octet_steps::StepError;
+use c_steps::StepError;
 
 // What a function returns that has done all; the numbers of the errors are theirs.
 const DONE: u8 = 0;
@@ -43,7 +43,7 @@ pub extern "C" fn legacy_pairing_step(
 ) -> u8
     ensures { step_left result machine.new list.new read.new written.new ≡ step_on role machine.old input payload.now answers.now list.old read.old written.old }
 {
-    match octet_steps::step_machine(role, machine, input, payload, answers, list) {
+    match c_steps::step_machine(role, machine, input, payload, answers, list) {
         Ok(progress) => {
             *read = progress.read;
             *written = progress.written;
@@ -71,7 +71,7 @@ pub extern "C" fn legacy_pairing_new(
 ) -> u8
     ensures { wrote result machine.new ≡ new_on role local_address.now peer_address.now features.now machine.old }
 {
-    code(octet_steps::new_machine(role, local_address, peer_address, features, machine))
+    code(c_steps::new_machine(role, local_address, peer_address, features, machine))
 }
 
 // Reads pairing features: of a packet's payload, the six fields, an octet each.
@@ -79,7 +79,7 @@ pub extern "C" fn legacy_pairing_new(
 pub extern "C" fn legacy_pairing_read_features(payload: &[u8], fields: &mut [u8]) -> u8
     ensures { wrote result fields.new ≡ read_features_on payload.now fields.old }
 {
-    code(octet_values::read_features(payload, fields))
+    code(c_values::read_features(payload, fields))
 }
 
 // Writes pairing features: of six fields, a packet's payload.
@@ -95,7 +95,7 @@ pub extern "C" fn legacy_pairing_write_features(
 ) -> u8
     ensures { wrote result payload.new ≡ write_features_on io oob auth_req key_size initiator_keys responder_keys payload.old }
 {
-    code(octet_values::write_features(
+    code(c_values::write_features(
         io,
         oob,
         auth_req,
@@ -119,7 +119,7 @@ pub extern "C" fn legacy_pairing_c1(
 ) -> u8
     ensures { wrote result confirm.new ≡ c1_on k.now r.now preq.now pres.now initiator.now responder.now confirm.old }
 {
-    code(octet_values::confirm_value(k, r, preq, pres, initiator, responder, confirm))
+    code(c_values::confirm_value(k, r, preq, pres, initiator, responder, confirm))
 }
 
 // The short-term key s1: k, srand and mrand have 16 octets.
@@ -127,16 +127,16 @@ pub extern "C" fn legacy_pairing_c1(
 pub extern "C" fn legacy_pairing_s1(k: &[u8], srand: &[u8], mrand: &[u8], key: &mut [u8]) -> u8
     ensures { wrote result key.new ≡ s1_on k.now srand.now mrand.now key.old }
 {
-    code(octet_values::short_term_key(k, srand, mrand, key))
+    code(c_values::short_term_key(k, srand, mrand, key))
 }
 
 // The number of calls of a list.
-#[tactic(auto, unfolding(octet_values::specs::Values::count_on))]
+#[tactic(auto, unfolding(c_values::specs::Values::count_on))]
 #[unsafe(no_mangle)]
 pub extern "C" fn legacy_pairing_count_calls(list: &[u8], count: &mut usize) -> u8
     ensures { counted result count.new ≡ count_on list.now count.old }
 {
-    match octet_values::count_calls(list) {
+    match c_values::count_calls(list) {
         Ok(calls) => {
             *count = calls;
             DONE
@@ -156,7 +156,7 @@ pub extern "C" fn legacy_pairing_call_at(
 ) -> u8
     ensures { call_left result kind.new body.new size.new ≡ call_on list.now index kind.old body.old size.old }
 {
-    match octet_values::call_at(list, index) {
+    match c_values::call_at(list, index) {
         Ok(call) => {
             *kind = call.kind;
             *body = call.body;

@@ -1,5 +1,5 @@
 // legacy_peripheral.rs: the responder's machine. Each function of the Rust has one of its name here or in the crate
-// peripheral_helpers. What legacy_central.rs has in the same words stands in the crate phases: `enter`,
+// peripheral_helpers. What legacy_central.rs has in the same words stands in the crate handlers: `enter`,
 // `store_confirm_bytes`, `handle_encryption_information`, `handle_identity_information`.
 #![tactic(auto)]
 
@@ -10,27 +10,27 @@ ghost use Rattle.protocol.specs.Handlers.{on_receiving_keys, other_input, handle
 ghost use Rattle.protocol.specs.LegacyPeripheral.{identity_named, await_identity_or_succeed, send_all_keys, handle_link_encrypted_success, answer_confirm, handle_peer_confirm, handle_pass_key_input};
 ghost use Rattle.protocol.specs.LegacyPeripheral.{handle_central_identification, handle_identity_address_information};
 ghost use Rattle.protocol.specs.LegacyPeripheral.{link_encrypted, transition_from, transition, handle_input};
-ghost use Rattle.ops.specs.Run.{run};
-ghost use Rattle.handlers.specs.Outcomes.{tried, ran_machine, ran_entered};
+ghost use Rattle.host_ops.specs.Run.{run};
+ghost use Rattle.handler_parts.specs.Outcomes.{tried, ran_machine, ran_entered};
 
-use answer::Stop;
 use bond::Error;
 use crypto::{Confirm, LongTermKey, Nonce};
-use handlers::input::{Received, other_input};
-use handlers::keys::{send_identity_keys, with_identity_address};
-use handlers::payload::{read_identification, read_identity_address, read_payload_word};
+use handler_parts::input::{Received, other_input};
+use handler_parts::keys::{send_identity_keys, with_identity_address};
+use handler_parts::payload::{read_identification, read_identity_address, read_payload_word};
+use handlers::{handle_encryption_information, settle, store_confirm_bytes, waiting_identity};
+use host_answers::Stop;
+use host_ops::{Halt, Ops};
 use machine::{ConfirmPhaseData, Machine, Phase};
-use ops::{Halt, Ops};
 use peripheral_helpers::{
     handle_pairing_random, handle_pairing_request, send_encryption_keys, send_sconfirm,
 };
-use phases::{handle_encryption_information, settle, store_confirm_bytes, waiting_identity};
-use types::{Command, Reason};
+use smp_types::{Command, Reason};
 
 // --- FSM core ---
 
 // One input: the transition, then the calls on entering the state that it gives.
-#[tactic(auto, using(ops::proofs::Laws::run_bind), unfolding(protocol::specs::LegacyPeripheral::handle_input))]
+#[tactic(auto, using(host_ops::proofs::Laws::run_bind), unfolding(protocol::specs::LegacyPeripheral::handle_input))]
 pub fn handle_input(
     ops: &mut Ops<'_>,
     machine: &mut Machine,
@@ -255,7 +255,7 @@ fn handle_peer_confirm(ops: &mut Ops<'_>, machine: &mut Machine, payload: &[u8])
 }
 
 // Sconfirm goes out where Mconfirm and the temporary key are known.
-#[tactic(auto, using(ops::proofs::Laws::run_bind))]
+#[tactic(auto, using(host_ops::proofs::Laws::run_bind))]
 fn answer_confirm(
     ops: &mut Ops<'_>,
     machine: &mut Machine,
@@ -295,7 +295,7 @@ fn handle_pass_key_input(
 }
 
 // Sends all of the responder's keys at once.
-#[tactic(auto, using(ops::proofs::Laws::run_bind), unfolding(protocol::specs::LegacyPeripheral::send_all_keys, protocol::specs::LegacyPeripheral::await_keys))]
+#[tactic(auto, using(host_ops::proofs::Laws::run_bind), unfolding(protocol::specs::LegacyPeripheral::send_all_keys, protocol::specs::LegacyPeripheral::await_keys))]
 fn send_all_keys(ops: &mut Ops<'_>, machine: &mut Machine) -> Result<(), Halt>
     ensures ran { ran_machine ops.new.trace machine.new result ≡ run ops.old.answers.now (send_all_keys machine.old.pairing_data) ops.old.trace }
     ensures answers { ops.new.answers ≡ ops.old.answers }

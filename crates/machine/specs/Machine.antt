@@ -2,12 +2,12 @@
 -- The data of a pairing, from pairing/mod.rs, and the part of both roles' states that a machine keeps beside its phase,
 -- from the states of legacy_peripheral.rs and legacy_central.rs. Assumes nothing.
 use Rattle.std.specs.Prelude.{ℕ, Bool, true, false, cond, ◌&&◌, ◌∷◌, replicate, Option, Some, None, Result, Ok, Err}
-use Rattle.types.specs.Types.{command_code, default_features, feature_octets, bonding_of}
-use Rattle.types.specs.declared.types.Command.TheVariants.{PairingRequest}
-use Rattle.types.specs.declared.types.BondingFlag.{BondingFlag}
-use Rattle.types.specs.declared.types.BondingFlag.TheVariants.{NoBonding, Bonding}
-use Rattle.types.specs.declared.types.PairingFeatures.{PairingFeatures}
-use Rattle.types.specs.declared.capabilities.IoCapabilities.{IoCapabilities}
+use Rattle.smp_types.specs.Types.{command_code, default_features, feature_octets, bonding_of}
+use Rattle.smp_types.specs.declared.types.Command.TheVariants.{PairingRequest}
+use Rattle.smp_types.specs.declared.types.BondingFlag.{BondingFlag}
+use Rattle.smp_types.specs.declared.types.BondingFlag.TheVariants.{NoBonding, Bonding}
+use Rattle.smp_types.specs.declared.types.PairingFeatures.{PairingFeatures}
+use Rattle.smp_types.specs.declared.capabilities.IoCapabilities.{IoCapabilities}
 use Rattle.util.specs.declared.util.PairingMethod.TheVariants.{JustWorks}
 use Rattle.bond.specs.declared.Address.{Address}
 use Rattle.bond.specs.declared.BondInformation.{BondInformation}

@@ -7,7 +7,7 @@ ghost use Rattle.machine.specs.Machine.{new_data, want_bonding, no_confirm_data,
 
 use bond::{Address, BondInformation, Error};
 use crypto::{Confirm, LongTermKey, Nonce};
-use types::{BondingFlag, Command, IoCapabilities, PairingFeatures};
+use smp_types::{BondingFlag, Command, IoCapabilities, PairingFeatures};
 use util::PairingMethod;
 
 // The end that a machine stands for.

@@ -5,9 +5,9 @@ use crate::print::{Quoted, printable};
 use arrayvec::ArrayVec;
 use hex::{FromHex, FromHexError};
 use machine::Role;
+use smp_types::{IoCapabilities, PairingFeatures, UseOutOfBand};
 use std::env::{Env, FillError};
 use std::fmt;
-use types::{IoCapabilities, PairingFeatures, UseOutOfBand};
 
 // The longest argument that is looked at.
 const LONGEST: usize = 64;

@@ -1,12 +1,12 @@
-// The call at which a step waits, read from the octets of its list. The numbers are the kinds of calls: `host` has no reader
+// The call at which a step waits, read from the octets of its list. The numbers are the kinds of calls: `host_calls` has no reader
 // of them, since it would be proved for this program alone.
 use bond::{BondInformation, Error, read_flag};
-use call_list::call_at;
+use c_values::{OctetsError, address_in};
 use crypto::{Confirm, IdentityResolvingKey, LongTermKey, Nonce};
-use handlers::payload::{read_identification, read_payload_word};
-use host::{Call, ConnectionEvent, Draw, Packet, Question};
-use octet_values::{OctetsError, address_in};
-use types::{Command, PairingFeatures, PassKey, Reason};
+use handler_parts::payload::{read_identification, read_payload_word};
+use host_call_list::call_at;
+use host_calls::{Call, ConnectionEvent, Draw, Packet, Question};
+use smp_types::{Command, PairingFeatures, PassKey, Reason};
 
 fn bond_of(octets: &[u8]) -> Option<BondInformation> {
     let octets = <[u8; 51]>::try_from(octets).ok()?;

@@ -2,11 +2,11 @@
 use crate::hosts::{Host, HostEvent};
 use crate::packet::Packet;
 use arrayvec::ArrayVec;
-use host::{Call, ConnectionEvent};
+use c_steps::fresh_machine;
+use host_calls::{Call, ConnectionEvent};
 use machine::{Input, Machine, Role};
-use octet_steps::fresh_machine;
+use smp_types::PairingFeatures;
 use std::fmt;
-use types::PairingFeatures;
 
 // Whether an event was called for, and taken.
 #[derive(Clone, Copy, PartialEq, Eq)]

@@ -14,11 +14,11 @@ use crate::print::{Octets, Shown};
 use arrayvec::ArrayVec;
 use bond::{Address, BdAddr, BondInformation, Identity};
 use crypto::{IdentityResolvingKey, LongTermKey, Nonce};
-use host::{Call, Draw, Question};
+use host_calls::{Call, Draw, Question};
 use machine::{Event, Role};
+use smp_types::{BondingFlag, PairingFeatures, PassKey};
 use std::io::Write;
 use std::{fmt, io};
-use types::{BondingFlag, PairingFeatures, PassKey};
 
 const PASS_KEY: PassKey = PassKey(204518);
 

@@ -1,17 +1,17 @@
 // A packet of the link: what a step reads of it, and how it is printed.
 use crate::print::{Octets, Shown};
 use arrayvec::ArrayVec;
-use host::Call;
+use host_calls::Call;
 use octets::{octets_at, write};
+use smp_types::{Command, PairingFeatures};
 use std::fmt;
-use types::{Command, PairingFeatures};
 
 #[derive(Clone, Copy)]
 pub(crate) enum Packet {
     // the terminal's, with which a pairing starts
     PairingRequest(PairingFeatures),
     // one that a step has sent
-    Sent(host::Packet),
+    Sent(host_calls::Packet),
 }
 
 // What the free places of a queue hold.
@@ -32,13 +32,14 @@ impl Packet {
     fn name(self) -> &'static str {
         match self {
             Packet::PairingRequest(_) => "Pairing Request",
-            Packet::Sent(host::Packet::PairingResponse(_)) => "Pairing Response",
-            Packet::Sent(host::Packet::PairingConfirm(_)) => "Pairing Confirm",
-            Packet::Sent(host::Packet::PairingRandom(_)) => "Pairing Random",
-            Packet::Sent(host::Packet::EncryptionInformation(_)) => "Encryption Information",
-            Packet::Sent(host::Packet::CentralIdentification { .. }) => "Central Identification",
-            Packet::Sent(host::Packet::IdentityInformation(_)) => "Identity Information",
-            Packet::Sent(host::Packet::IdentityAddressInformation(_)) => {
+            Packet::Sent(host_calls::Packet::PairingResponse(_)) => "Pairing Response",
+            Packet::Sent(host_calls::Packet::PairingConfirm(_)) => "Pairing Confirm",
+            Packet::Sent(host_calls::Packet::PairingRandom(_)) => "Pairing Random",
+            Packet::Sent(host_calls::Packet::EncryptionInformation(_)) => "Encryption Information",
+            Packet::Sent(host_calls::Packet::CentralIdentification { .. }) =>
+                "Central Identification",
+            Packet::Sent(host_calls::Packet::IdentityInformation(_)) => "Identity Information",
+            Packet::Sent(host_calls::Packet::IdentityAddressInformation(_)) => {
                 "Identity Address Information"
             }
         }
@@ -68,24 +69,32 @@ impl fmt::Display for Packet {
 }
 
 // The payload.
-impl fmt::Display for Shown<host::Packet> {
+impl fmt::Display for Shown<host_calls::Packet> {
     fn fmt<W: fmt::Write>(&self, f: &mut fmt::Formatter<W>) -> fmt::Result {
         match self.0 {
-            host::Packet::PairingResponse(features) => write!(f, "{}", Shown(features)),
-            host::Packet::PairingConfirm(confirm) => {
+            host_calls::Packet::PairingResponse(features) => write!(f, "{}", Shown(features)),
+            host_calls::Packet::PairingConfirm(confirm) => {
                 write!(f, "{}", Octets(confirm.0.to_le_bytes()))
             }
-            host::Packet::PairingRandom(nonce) => write!(f, "{}", Octets(nonce.0.to_le_bytes())),
-            host::Packet::EncryptionInformation(ltk) => {
+            host_calls::Packet::PairingRandom(nonce) => write!(
+                f,
+                "{}",
+                Octets(nonce.0.to_le_bytes())
+            ),
+            host_calls::Packet::EncryptionInformation(ltk) => {
                 write!(f, "LTK {}", Octets(ltk.to_le_bytes()))
             }
-            host::Packet::CentralIdentification { ediv, rand } => {
+            host_calls::Packet::CentralIdentification { ediv, rand } => {
                 write!(f, "EDIV {ediv}, Rand {}", Octets(rand.to_le_bytes()))
             }
-            host::Packet::IdentityInformation(irk) => {
+            host_calls::Packet::IdentityInformation(irk) => {
                 write!(f, "IRK {}", Octets(irk.to_le_bytes()))
             }
-            host::Packet::IdentityAddressInformation(address) => write!(f, "{}", Shown(address)),
+            host_calls::Packet::IdentityAddressInformation(address) => write!(
+                f,
+                "{}",
+                Shown(address)
+            ),
         }
     }
 }

@@ -2,8 +2,8 @@
 use bond::{Address, BondInformation};
 use crypto::IdentityResolvingKey;
 use machine::Phase;
+use smp_types::{AuthReq, BondingFlag, IoCapabilities, KeyDistributionFlags, PairingFeatures};
 use std::fmt;
-use types::{AuthReq, BondingFlag, IoCapabilities, KeyDistributionFlags, PairingFeatures};
 use util::{PairingMethod, PassKeyEntryAction};
 
 // A value of a library, as it is shown.

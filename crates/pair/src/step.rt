@@ -4,10 +4,10 @@ use crate::calls::last_call;
 use crate::end::{End, Given};
 use crate::hosts::Answers;
 use crate::trace::{call_line, refused_line};
+use c_steps::StepError;
+use c_values::OctetsError;
 use entry::{Outcome, step_in_place};
-use host::{Call, LONGEST};
-use octet_steps::StepError;
-use octet_values::OctetsError;
+use host_calls::{Call, LONGEST};
 use std::io;
 
 // The calls of the longest step, and its end.

@@ -6,9 +6,9 @@ use crate::hosts::{Answer, Host};
 use crate::packet::Packet;
 use crate::print::{Level, Octets, Shown, state_name};
 use bond::Error;
-use host::{Call, ConnectionEvent, Draw, Question};
+use c_steps::StepError;
+use host_calls::{Call, ConnectionEvent, Draw, Question};
 use machine::{Phase, Role};
-use octet_steps::StepError;
 use std::{fmt, io};
 
 // An end's address and feature record.
@@ -50,7 +50,7 @@ fn is_early(phase: Phase, given: Given) -> bool {
     matches!(phase, Phase::WaitingPassKeyInput { .. })
         && matches!(
             given,
-            Given::Packet(Packet::Sent(host::Packet::PairingConfirm(_)))
+            Given::Packet(Packet::Sent(host_calls::Packet::PairingConfirm(_)))
         )
 }
 

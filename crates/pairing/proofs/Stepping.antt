@@ -6,8 +6,8 @@ use mathlib.Core.List.{List}
 use lib.ListN.{length}
 use borrow.Author.Tests.{le-ltb}
 use Rattle.octets.specs.Octets.{write_at}
-use Rattle.host.specs.Calls.{calls_octets, longest, no_trace}
-use Rattle.host.specs.declared.call.Call.{Call}
+use Rattle.host_calls.specs.Calls.{calls_octets, longest, no_trace}
+use Rattle.host_calls.specs.declared.call.Call.{Call}
 use Rattle.machine.specs.declared.Input.{Input}
 use Rattle.machine.specs.declared.Machine.{Machine}
 use Rattle.machine.specs.declared.Role.{Role}
@@ -15,8 +15,8 @@ use Rattle.protocol.specs.Program.{Ending, ended, wanting, refusing}
 use Rattle.protocol.specs.Step.{handle_input_by_role, play_of, stepped, is_known, step}
 use Rattle.protocol.specs.Outcome as outcome
 use Rattle.protocol.proofs.Limits.{most_octets}
-use Rattle.ops.specs.Run.{run}
-use Rattle.ops.proofs.Playing.{ran_as, run_first, listed_octets}
+use Rattle.host_ops.specs.Run.{run}
+use Rattle.host_ops.proofs.Playing.{ran_as, run_first, listed_octets}
 use Rattle.pairing.specs.Report.{reported}
 
 -- from a play whose calls have no more octets than a trace has room for

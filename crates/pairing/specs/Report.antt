@@ -2,15 +2,15 @@
 -- What a step gives back, from what its input gave on the code's trace. Assumes nothing.
 use Rattle.std.specs.Prelude.{ℕ, List, length}
 use Rattle.octets.specs.Octets.{write_at}
-use Rattle.host.specs.Calls.{listed}
-use Rattle.host.specs.declared.call.Trace.{Trace}
-use Rattle.answer.specs.Answers.{answer_refusal}
-use Rattle.answer.specs.declared.Stop.TheVariants.{Wanted, Refused}
+use Rattle.host_calls.specs.Calls.{listed}
+use Rattle.host_calls.specs.declared.call.Trace.{Trace}
+use Rattle.host_answers.specs.Answers.{answer_refusal}
+use Rattle.host_answers.specs.declared.Stop.TheVariants.{Wanted, Refused}
 use Rattle.machine.specs.declared.Machine.{Machine}
 use Rattle.protocol.specs.Outcome.{StepOutcome}
 use Rattle.protocol.specs.Outcome as outcome
 use Rattle.protocol.specs.Step.{Step, refused_by}
-use Rattle.ops.specs.Run.{Ran, ended, stopped}
+use Rattle.host_ops.specs.Run.{Ran, ended, stopped}
 
 -- the trace's calls stand at the front of the list
 abbrev pub listing : StepOutcome → Machine → List ℕ → Trace → Step

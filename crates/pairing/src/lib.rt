@@ -4,17 +4,17 @@
 ghost use Rattle.std.specs.Prelude.{◌≡◌, OnErr};
 ghost use Rattle.protocol.specs.declared.Outcome.TheVariants as outcome;
 ghost use Rattle.protocol.specs.Step.{step, step_of, handle_input_by_role, is_known};
-ghost use Rattle.ops.specs.Run.{run};
-ghost use Rattle.handlers.specs.Outcomes.{ran_entered};
+ghost use Rattle.host_ops.specs.Run.{run};
+ghost use Rattle.handler_parts.specs.Outcomes.{ran_entered};
 ghost use Rattle.pairing.specs.Report.{reported};
 
-use answer::Stop;
-use handlers::input::Received;
-use host::{LONGEST, Trace};
+use handler_parts::input::Received;
+use host_answers::Stop;
+use host_calls::{LONGEST, Trace};
+use host_ops::Ops;
 use machine::{Input, Machine, Role};
-use ops::Ops;
 pub use protocol::{Outcome, Refusal, Stepped};
-use types::Command;
+use smp_types::Command;
 
 // The machine given back as it was, and counts 0.
 fn refused(machine: Machine, refusal: Refusal) -> Stepped

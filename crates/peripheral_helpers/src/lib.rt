@@ -6,22 +6,22 @@ ghost use Rattle.std.specs.Prelude.{◌≡◌, OnErr};
 ghost use Rattle.protocol.specs.Handlers.{names_encryption_key, send_encryption_key, with_keys};
 ghost use Rattle.protocol.specs.LegacyPeripheral.{confirm_value, send_sconfirm, handle_pairing_random};
 ghost use Rattle.protocol.specs.LegacyPeripheral.{responder_keys, with_mitm, new_legacy, response_features, begin_method, handle_pairing_request};
-ghost use Rattle.ops.specs.Run.{run};
-ghost use Rattle.handlers.specs.Outcomes.{ran_machine, ran_data, ran_nonce};
+ghost use Rattle.host_ops.specs.Run.{run};
+ghost use Rattle.handler_parts.specs.Outcomes.{ran_machine, ran_data, ran_nonce};
 
 use bond::Error;
 use crypto::{Confirm, Nonce, c1, s1};
-use handlers::keys::{draw_keys, with_keys};
-use handlers::packet::{
+use handler_parts::keys::{draw_keys, with_keys};
+use handler_parts::packet::{
     make_central_identification_packet, make_confirm_packet, make_encryption_information_packet,
     make_pairing_random,
 };
-use handlers::payload::{command_octets, read_features, read_payload_word};
-use host::{ConnectionEvent, Packet};
+use handler_parts::payload::{command_octets, read_features, read_payload_word};
+use handlers::{confirm_phase_data, enable_encryption, request_oob_data, request_pass_key};
+use host_calls::{ConnectionEvent, Packet};
+use host_ops::{Halt, Ops};
 use machine::{Machine, PairingData, Phase};
-use ops::{Halt, Ops};
-use phases::{confirm_phase_data, enable_encryption, request_oob_data, request_pass_key};
-use types::{
+use smp_types::{
     AuthReq, BondingFlag, Command, IoCapabilities, KeyDistributionFlags, PairingFeatures, Reason,
     UseOutOfBand,
 };
@@ -81,7 +81,7 @@ pub fn handle_pairing_request(
     ensures ran { ran_machine ops.new.trace machine.new result ≡ run ops.old.answers.now (handle_pairing_request machine.old.pairing_data payload.now) ops.old.trace }
     ensures answers { ops.new.answers ≡ ops.old.answers }
 {
-    // A failure to send the event does not matter. By a match of its own: with `attempt` of `phases` the proof did not close.
+    // A failure to send the event does not matter. By a match of its own: with `attempt` of `handlers` the proof did not close.
     if ops.find_bond()?
         && let Err(Halt::Stop(stop)) = ops.try_send_connection_event(ConnectionEvent::BondLost)
     {

@@ -11,13 +11,13 @@ use native.Mathlib.Omega.{arith}
 use Rattle.crypto.specs.declared.crypto.IdentityResolvingKey.{IdentityResolvingKey}
 use Rattle.crypto.specs.declared.crypto.LongTermKey.{LongTermKey}
 use Rattle.crypto.specs.declared.crypto.Nonce.{Nonce}
-use Rattle.types.specs.Types.{features_with, least_key_size, largest_key_size}
-use Rattle.types.specs.declared.capabilities.IoCapabilities.TheVariants.{KeyboardOnly, KeyboardDisplay}
-use Rattle.types.specs.declared.types.UseOutOfBand.TheVariants.{NotPresent, Present}
+use Rattle.smp_types.specs.Types.{features_with, least_key_size, largest_key_size}
+use Rattle.smp_types.specs.declared.capabilities.IoCapabilities.TheVariants.{KeyboardOnly, KeyboardDisplay}
+use Rattle.smp_types.specs.declared.types.UseOutOfBand.TheVariants.{NotPresent, Present}
 use Rattle.util.specs.Method.{BOTH_INPUT}
 use Rattle.bond.specs.declared.Address.{Address}
 use Rattle.bond.specs.declared.BondInformation.{BondInformation}
-use Rattle.answer.specs.Answers.{pass_key_max}
+use Rattle.host_answers.specs.Answers.{pass_key_max}
 use Rattle.machine.specs.declared.Event.TheVariants as event
 use Rattle.machine.specs.declared.Input.TheVariants as input
 use Rattle.machine.specs.declared.Machine.{Machine}

@@ -10,11 +10,11 @@ use lib.ListN.{length, length-append}
 use Rattle.bond.specs.declared.Address.{Address}
 use Rattle.bond.specs.declared.BondInformation.{BondInformation}
 use Rattle.bond.specs.declared.Error.{Error}
-use Rattle.host.specs.Calls.{call_octets, calls_octets}
-use Rattle.host.specs.declared.call.Call.{Call}
-use Rattle.host.specs.declared.call.Call.TheVariants as call
-use Rattle.host.specs.declared.call.ConnectionEvent.{ConnectionEvent}
-use Rattle.host.specs.declared.call.ConnectionEvent.TheVariants as notice
+use Rattle.host_calls.specs.Calls.{call_octets, calls_octets}
+use Rattle.host_calls.specs.declared.call.Call.{Call}
+use Rattle.host_calls.specs.declared.call.Call.TheVariants as call
+use Rattle.host_calls.specs.declared.call.ConnectionEvent.{ConnectionEvent}
+use Rattle.host_calls.specs.declared.call.ConnectionEvent.TheVariants as notice
 use Rattle.machine.specs.Machine.{no_confirm_data}
 use Rattle.machine.specs.declared.Machine.{Machine}
 use Rattle.machine.specs.declared.Phase.TheVariants as phase

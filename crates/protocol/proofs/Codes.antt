@@ -6,9 +6,9 @@ use mathlib.Core.List.{◌∷◌, map}
 use native.Mathlib.Omega.{arith}
 use lib.ListN.{get_or-eq_default}
 use Rattle.octets.specs.Answer.{refused, accepted}
-use Rattle.types.specs.Types.{command_code, commands}
-use Rattle.types.specs.declared.types.Command.{Command}
-use Rattle.types.specs.declared.types.Command.TheVariants as command
+use Rattle.smp_types.specs.Types.{command_code, commands}
+use Rattle.smp_types.specs.declared.types.Command.{Command}
+use Rattle.smp_types.specs.declared.types.Command.TheVariants as command
 use Rattle.machine.specs.declared.Input.TheVariants as input
 use Rattle.protocol.specs.Step.{is_accepted, is_known}
 

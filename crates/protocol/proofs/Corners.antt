@@ -13,13 +13,13 @@ use Rattle.octets.specs.Octets.{from_octets, word_of}
 use Rattle.crypto.specs.declared.crypto.Confirm.{Confirm}
 use Rattle.crypto.specs.declared.crypto.LongTermKey.{LongTermKey}
 use Rattle.crypto.specs.declared.crypto.Nonce.{Nonce}
-use Rattle.types.specs.Types.{command_code, reason_of}
-use Rattle.types.specs.declared.types.Command.{Command}
-use Rattle.types.specs.declared.types.Command.TheVariants as command
-use Rattle.types.specs.declared.types.Reason.TheVariants as reason
+use Rattle.smp_types.specs.Types.{command_code, reason_of}
+use Rattle.smp_types.specs.declared.types.Command.{Command}
+use Rattle.smp_types.specs.declared.types.Command.TheVariants as command
+use Rattle.smp_types.specs.declared.types.Reason.TheVariants as reason
 use Rattle.bond.specs.declared.Address.{Address}
 use Rattle.bond.specs.declared.Error.TheVariants.{Security, InvalidState, InvalidValue}
-use Rattle.host.specs.declared.call.Question.TheVariants as question
+use Rattle.host_calls.specs.declared.call.Question.TheVariants as question
 use Rattle.machine.specs.Machine.{no_confirm_data, want_bonding}
 use Rattle.machine.specs.declared.ConfirmPhaseData.{ConfirmPhaseData}
 use Rattle.machine.specs.declared.Event.TheVariants as event

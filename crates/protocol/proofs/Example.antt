@@ -10,10 +10,10 @@ use native.Mathlib.Omega.{arith}
 use borrow.Author.Tests.{le-ltb}
 use Rattle.octets.specs.Octets.{write_at}
 use Rattle.octets.proofs.Parts.{written}
-use Rattle.types.specs.declared.types.Reason.TheVariants as reason
+use Rattle.smp_types.specs.declared.types.Reason.TheVariants as reason
 use Rattle.bond.specs.declared.Error.TheVariants.{Security}
-use Rattle.host.specs.Calls.{call_octets, calls_octets, longest}
-use Rattle.answer.specs.Answers.{body_at, verdict_at}
+use Rattle.host_calls.specs.Calls.{call_octets, calls_octets, longest}
+use Rattle.host_answers.specs.Answers.{body_at, verdict_at}
 use Rattle.machine.specs.Machine.{no_confirm_data}
 use Rattle.crypto.specs.declared.crypto.Confirm.{Confirm}
 use Rattle.machine.specs.declared.ConfirmPhaseData.{ConfirmPhaseData}

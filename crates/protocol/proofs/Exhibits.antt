@@ -10,19 +10,19 @@ use lib.Dec.{ltb, lit≤}
 use lib.ListN.{replicate}
 use borrow.Author.Tests.{ltb-true}
 use Rattle.octets.specs.Octets.{word_of}
-use Rattle.types.specs.Types.{feature_octets, features_with, features_of}
-use Rattle.types.specs.declared.capabilities.IoCapabilities.{IoCapabilities}
-use Rattle.types.specs.declared.capabilities.IoCapabilities.TheVariants as io
-use Rattle.types.specs.declared.types.PairingFeatures.{PairingFeatures}
-use Rattle.types.specs.declared.types.UseOutOfBand.TheVariants.{NotPresent}
+use Rattle.smp_types.specs.Types.{feature_octets, features_with, features_of}
+use Rattle.smp_types.specs.declared.capabilities.IoCapabilities.{IoCapabilities}
+use Rattle.smp_types.specs.declared.capabilities.IoCapabilities.TheVariants as io
+use Rattle.smp_types.specs.declared.types.PairingFeatures.{PairingFeatures}
+use Rattle.smp_types.specs.declared.types.UseOutOfBand.TheVariants.{NotPresent}
 use Rattle.util.specs.Method.{legacy_method, io_method, wants_mitm}
 use Rattle.util.specs.declared.util.PairingMethod.TheVariants as method
 use Rattle.bond.specs.declared.Address.{Address}
-use Rattle.host.specs.declared.call.Call.{Call}
+use Rattle.host_calls.specs.declared.call.Call.{Call}
 use Rattle.machine.specs.declared.Phase.TheVariants as phase
 use Rattle.machine.specs.declared.Role.TheVariants.{Central, Peripheral}
 use Rattle.machine.specs.Machine.{new_machine, lesc_switch}
-use Rattle.answer.specs.Answers.{body_at, verdict_at, flag_at, irk_at, pass_key_at}
+use Rattle.host_answers.specs.Answers.{body_at, verdict_at, flag_at, irk_at, pass_key_at}
 use Rattle.protocol.specs.Handlers.{features_in, enter}
 use Rattle.protocol.specs.LegacyCentral as central
 use Rattle.protocol.specs.LegacyPeripheral.{initiator_keys, responder_keys, response_features, begin_method, handle_pairing_request, transition, handle_input}

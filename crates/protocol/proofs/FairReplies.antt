@@ -17,14 +17,14 @@ use Rattle.crypto.specs.Crypto.{non_zero, drawn_nonce}
 use Rattle.crypto.specs.declared.crypto.IdentityResolvingKey.{IdentityResolvingKey}
 use Rattle.crypto.specs.declared.crypto.LongTermKey.{LongTermKey}
 use Rattle.crypto.specs.declared.crypto.Nonce.{Nonce}
-use Rattle.types.specs.declared.types.PassKey.{PassKey}
+use Rattle.smp_types.specs.declared.types.PassKey.{PassKey}
 use Rattle.bond.specs.Bond.{bond_of}
 use Rattle.bond.specs.declared.Address.{Address}
 use Rattle.bond.specs.declared.BondInformation.{BondInformation}
-use Rattle.host.specs.Calls.{kind_of, body_lengths, length_in}
-use Rattle.host.specs.declared.call.Call.{Call}
-use Rattle.host.proofs.Writing.{body_length_lem}
-use Rattle.answer.specs.Answers.{answer_length, found, pass_key_max}
+use Rattle.host_calls.specs.Calls.{kind_of, body_lengths, length_in}
+use Rattle.host_calls.specs.declared.call.Call.{Call}
+use Rattle.host_calls.proofs.Writing.{body_length_lem}
+use Rattle.host_answers.specs.Answers.{answer_length, found, pass_key_max}
 use Rattle.machine.specs.declared.Machine.{Machine}
 use Rattle.protocol.specs.Program.{ret, ask, got, wanting, play}
 use Rattle.protocol.specs.Ops.{delivered, Sort, a_verdict, a_flag, an_irk, an_address, a_nonce, a_pass_key, an_ltk}

@@ -7,14 +7,14 @@ use mathlib.Core.List.{List, [], ◌∷◌, ◌++◌, append-nil, append_assoc}
 use mathlib.Core.Logic.{◌⊎◌, inl, inr}
 use native.Mathlib.Omega.{arith}
 use lib.ListN.{length, drop}
-use Rattle.types.specs.declared.types.Command.TheVariants as command
+use Rattle.smp_types.specs.declared.types.Command.TheVariants as command
 use Rattle.util.specs.Method.{legacy_method}
 use Rattle.util.specs.declared.util.PairingMethod.{PairingMethod}
 use Rattle.util.specs.declared.util.PairingMethod.TheVariants as method
 use Rattle.util.specs.declared.util.PassKeyEntryAction.{PassKeyEntryAction}
 use Rattle.util.specs.declared.util.PassKeyEntryAction.TheVariants as action
-use Rattle.types.specs.declared.types.PairingFeatures.{PairingFeatures}
-use Rattle.host.specs.declared.call.Call.{Call}
+use Rattle.smp_types.specs.declared.types.PairingFeatures.{PairingFeatures}
+use Rattle.host_calls.specs.declared.call.Call.{Call}
 use Rattle.machine.specs.declared.Role.{Role}
 use Rattle.machine.specs.declared.Role.TheVariants.{Central, Peripheral}
 use Rattle.protocol.specs.Handlers.{names_encryption_key, names_identity_key}

@@ -7,9 +7,9 @@ use mathlib.Core.List.{List, [], ◌∷◌, ◌++◌, append-nil, append_assoc}
 use native.Mathlib.Omega.{arith}
 use lib.Dec.{eqb}
 use lib.ListN.{replicate}
-use Rattle.host.specs.Calls.{packet_command, kind_of, longest}
-use Rattle.host.specs.declared.call.Call.{Call}
-use Rattle.host.specs.declared.call.Call.TheVariants as call
+use Rattle.host_calls.specs.Calls.{packet_command, kind_of, longest}
+use Rattle.host_calls.specs.declared.call.Call.{Call}
+use Rattle.host_calls.specs.declared.call.Call.TheVariants as call
 use Rattle.machine.specs.declared.Input.TheVariants as input
 use Rattle.machine.specs.declared.Machine.{Machine}
 use Rattle.machine.specs.declared.Role.{Role}

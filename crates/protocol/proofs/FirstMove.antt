@@ -3,9 +3,9 @@
 use Rattle.std.specs.Prelude.{Some}
 use mathlib.Core.Path.{◌≡◌, refl}
 use mathlib.Core.List.{[], ◌∷◌}
-use Rattle.answer.specs.Answers.{body_at, flag_at}
-use Rattle.host.specs.declared.call.Call.TheVariants as call
-use Rattle.host.specs.declared.call.Question.TheVariants as question
+use Rattle.host_answers.specs.Answers.{body_at, flag_at}
+use Rattle.host_calls.specs.declared.call.Call.TheVariants as call
+use Rattle.host_calls.specs.declared.call.Question.TheVariants as question
 use Rattle.machine.specs.Machine.{new_machine}
 use Rattle.machine.specs.declared.Role.TheVariants.{Central, Peripheral}
 use Rattle.machine.proofs.Canonical.{Canonical, new_canonical, switch_canonical}

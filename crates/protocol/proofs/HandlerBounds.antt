@@ -9,18 +9,18 @@ use lib.ListN.{length}
 use native.Mathlib.Omega.{arith}
 use Rattle.octets.specs.Octets.{octets_of}
 use Rattle.crypto.specs.declared.crypto.LongTermKey.{LongTermKey}
-use Rattle.types.specs.Types.{command_code}
-use Rattle.types.specs.declared.types.Command.{Command}
-use Rattle.types.specs.declared.types.Command.TheVariants as command
+use Rattle.smp_types.specs.Types.{command_code}
+use Rattle.smp_types.specs.declared.types.Command.{Command}
+use Rattle.smp_types.specs.declared.types.Command.TheVariants as command
 use Rattle.bond.specs.Bond.{bd_addr_octets, address_octets, bond_octets}
 use Rattle.bond.specs.declared.BondInformation.{BondInformation}
 use Rattle.bond.specs.declared.Error.{Error}
 use Rattle.bond.specs.declared.Error.TheVariants.{InvalidValue}
-use Rattle.host.specs.Calls.{call_octets}
-use Rattle.host.specs.declared.call.Call.{Call}
-use Rattle.host.specs.declared.call.Call.TheVariants as call
-use Rattle.host.specs.declared.call.ConnectionEvent.TheVariants as notice
-use Rattle.host.proofs.Writing.{call_short}
+use Rattle.host_calls.specs.Calls.{call_octets}
+use Rattle.host_calls.specs.declared.call.Call.{Call}
+use Rattle.host_calls.specs.declared.call.Call.TheVariants as call
+use Rattle.host_calls.specs.declared.call.ConnectionEvent.TheVariants as notice
+use Rattle.host_calls.proofs.Writing.{call_short}
 use Rattle.machine.specs.Machine.{want_bonding}
 use Rattle.machine.specs.declared.ConfirmPhaseData.{ConfirmPhaseData}
 use Rattle.machine.specs.declared.Event.TheVariants as event

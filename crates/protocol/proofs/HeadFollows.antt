@@ -17,8 +17,8 @@ use Rattle.util.specs.declared.util.PassKeyEntryAction.TheVariants as action
 use Rattle.util.proofs.Choice.{never_numeric}
 use Rattle.bond.specs.declared.Address.{Address}
 use Rattle.bond.specs.declared.BondInformation.{BondInformation}
-use Rattle.host.specs.declared.call.Packet.TheVariants as packet
-use Rattle.host.specs.declared.call.Question.TheVariants as question
+use Rattle.host_calls.specs.declared.call.Packet.TheVariants as packet
+use Rattle.host_calls.specs.declared.call.Question.TheVariants as question
 use Rattle.machine.specs.Machine.{no_confirm_data, new_machine, want_bonding, wishes}
 use Rattle.machine.specs.declared.ConfirmPhaseData.{ConfirmPhaseData}
 use Rattle.machine.specs.declared.Machine.{Machine}

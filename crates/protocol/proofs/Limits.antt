@@ -11,16 +11,16 @@ use lib.Dec.{lit≤}
 use lib.ListN.{length, drop, replicate}
 use Rattle.octets.specs.Octets.{octets_of}
 use Rattle.octets.proofs.Parts.{written}
-use Rattle.types.specs.Types.{bonding_code, features_with}
-use Rattle.types.specs.declared.capabilities.IoCapabilities.TheVariants.{NoInputNoOutput}
-use Rattle.types.specs.declared.types.BondingFlag.TheVariants.{Bonding}
-use Rattle.types.specs.declared.types.PairingFeatures.{PairingFeatures}
-use Rattle.types.specs.declared.types.UseOutOfBand.TheVariants.{NotPresent}
+use Rattle.smp_types.specs.Types.{bonding_code, features_with}
+use Rattle.smp_types.specs.declared.capabilities.IoCapabilities.TheVariants.{NoInputNoOutput}
+use Rattle.smp_types.specs.declared.types.BondingFlag.TheVariants.{Bonding}
+use Rattle.smp_types.specs.declared.types.PairingFeatures.{PairingFeatures}
+use Rattle.smp_types.specs.declared.types.UseOutOfBand.TheVariants.{NotPresent}
 use Rattle.util.specs.declared.util.PairingMethod.TheVariants.{JustWorks}
 use Rattle.bond.specs.Bond.{bd_addr_octets, address_octets, address_of, bond_octets, bond_with}
-use Rattle.host.specs.Calls.{call_octets, calls_octets, longest}
-use Rattle.host.specs.declared.call.Call.{Call}
-use Rattle.answer.specs.Answers.{body_at, verdict_at, ltk_at, ediv_at, rand_at, irk_at, address_at}
+use Rattle.host_calls.specs.Calls.{call_octets, calls_octets, longest}
+use Rattle.host_calls.specs.declared.call.Call.{Call}
+use Rattle.host_answers.specs.Answers.{body_at, verdict_at, ltk_at, ediv_at, rand_at, irk_at, address_at}
 use Rattle.machine.specs.Machine.{new_data, no_confirm_data, want_bonding}
 use Rattle.machine.specs.declared.Event.TheVariants as event
 use Rattle.machine.specs.declared.Input.{Input}

@@ -17,17 +17,17 @@ use Rattle.crypto.specs.Crypto.{c1_of, masked_of}
 use Rattle.crypto.specs.declared.crypto.Confirm.{Confirm}
 use Rattle.crypto.specs.declared.crypto.LongTermKey.{LongTermKey}
 use Rattle.crypto.specs.declared.crypto.Nonce.{Nonce}
-use Rattle.types.specs.declared.types.Command.TheVariants as command
+use Rattle.smp_types.specs.declared.types.Command.TheVariants as command
 use Rattle.util.specs.Method.{security_level}
 use Rattle.bond.specs.Bond.{address_type, bd_addr_octets, verdict_error}
 use Rattle.bond.specs.declared.Address.{Address}
 use Rattle.bond.specs.declared.BondInformation.{BondInformation}
 use Rattle.bond.specs.declared.Error.{Error}
 use Rattle.bond.specs.declared.Error.TheVariants.{OutOfMemory, Host}
-use Rattle.host.specs.declared.call.Call.TheVariants as call
-use Rattle.host.specs.declared.call.ConnectionEvent.TheVariants as notice
-use Rattle.host.specs.declared.call.Question.TheVariants as question
-use Rattle.answer.specs.Answers.{found, address_body, encryption_body, bonded_body}
+use Rattle.host_calls.specs.declared.call.Call.TheVariants as call
+use Rattle.host_calls.specs.declared.call.ConnectionEvent.TheVariants as notice
+use Rattle.host_calls.specs.declared.call.Question.TheVariants as question
+use Rattle.host_answers.specs.Answers.{found, address_body, encryption_body, bonded_body}
 use Rattle.machine.specs.Machine.{no_confirm_data, want_bonding, result_of}
 use Rattle.machine.specs.declared.ConfirmPhaseData.{ConfirmPhaseData}
 use Rattle.machine.specs.declared.Event.TheVariants as event

@@ -12,19 +12,19 @@ use Rattle.crypto.specs.declared.crypto.Confirm.{Confirm}
 use Rattle.crypto.specs.declared.crypto.IdentityResolvingKey.{IdentityResolvingKey}
 use Rattle.crypto.specs.declared.crypto.LongTermKey.{LongTermKey}
 use Rattle.crypto.specs.declared.crypto.Nonce.{Nonce}
-use Rattle.types.specs.Types.{command_code, feature_octets, least_key_size, largest_key_size}
-use Rattle.types.specs.declared.types.Command.TheVariants as command
-use Rattle.types.specs.declared.types.PairingFeatures.{PairingFeatures}
+use Rattle.smp_types.specs.Types.{command_code, feature_octets, least_key_size, largest_key_size}
+use Rattle.smp_types.specs.declared.types.Command.TheVariants as command
+use Rattle.smp_types.specs.declared.types.PairingFeatures.{PairingFeatures}
 use Rattle.util.specs.Method.{legacy_method, security_level}
 use Rattle.util.specs.declared.util.PairingMethod.{PairingMethod}
 use Rattle.util.specs.declared.util.PairingMethod.TheVariants as method
 use Rattle.bond.specs.Bond.{bd_addr_octets}
 use Rattle.bond.specs.declared.Address.{Address}
 use Rattle.bond.specs.declared.BondInformation.{BondInformation}
-use Rattle.host.specs.Calls.{packet_command, packet_body, kind_of}
-use Rattle.host.specs.declared.call.Call.{Call}
-use Rattle.host.specs.declared.call.Packet.{Packet}
-use Rattle.host.specs.declared.call.Packet.TheVariants as packet
+use Rattle.host_calls.specs.Calls.{packet_command, packet_body, kind_of}
+use Rattle.host_calls.specs.declared.call.Call.{Call}
+use Rattle.host_calls.specs.declared.call.Packet.{Packet}
+use Rattle.host_calls.specs.declared.call.Packet.TheVariants as packet
 use Rattle.machine.specs.declared.Machine.{Machine}
 use Rattle.machine.specs.declared.Phase.TheVariants as phase
 use Rattle.machine.specs.declared.Role.{Role}

@@ -10,12 +10,12 @@ use native.Mathlib.Omega.{arith}
 use lib.Dec.{eqb}
 use borrow.Author.Tests.{lt-ltb, le-ltb}
 use Rattle.octets.specs.Octets.{from_octets, to_octets, octets_of, word_of}
-use Rattle.types.specs.Types.{flag, encryption_key_flag, identity_key_flag}
-use Rattle.types.specs.Types.{feature_octets, least_key_size, largest_key_size}
-use Rattle.types.specs.declared.types.KeyDistributionFlags.{KeyDistributionFlags}
-use Rattle.types.specs.declared.types.PairingFeatures.{PairingFeatures}
-use Rattle.types.proofs.Features.{read_back}
-use Rattle.types.proofs.Flags.{flag_set, flag_kept}
+use Rattle.smp_types.specs.Types.{flag, encryption_key_flag, identity_key_flag}
+use Rattle.smp_types.specs.Types.{feature_octets, least_key_size, largest_key_size}
+use Rattle.smp_types.specs.declared.types.KeyDistributionFlags.{KeyDistributionFlags}
+use Rattle.smp_types.specs.declared.types.PairingFeatures.{PairingFeatures}
+use Rattle.smp_types.proofs.Features.{read_back}
+use Rattle.smp_types.proofs.Flags.{flag_set, flag_kept}
 use Rattle.bond.specs.Bond.{bd_addr_octets, address_of, address_type}
 use Rattle.bond.specs.declared.Address.{Address}
 use Rattle.protocol.specs.Handlers.{answered, word_in, features_in, identification_in, address_in}

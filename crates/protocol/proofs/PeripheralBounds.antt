@@ -10,11 +10,11 @@ use Rattle.octets.specs.Octets.{octets_of}
 use Rattle.crypto.specs.Crypto.{s1_of}
 use Rattle.crypto.specs.declared.crypto.Confirm.{Confirm}
 use Rattle.crypto.specs.declared.crypto.Nonce.{Nonce}
-use Rattle.types.specs.declared.types.Command.TheVariants as command
+use Rattle.smp_types.specs.declared.types.Command.TheVariants as command
 use Rattle.util.specs.declared.util.PairingMethod.{PairingMethod}
 use Rattle.util.specs.declared.util.PairingMethod.TheVariants as method
 use Rattle.util.specs.declared.util.PassKeyEntryAction.TheVariants as action
-use Rattle.host.specs.Calls.{call_octets}
+use Rattle.host_calls.specs.Calls.{call_octets}
 use Rattle.machine.specs.Machine.{want_bonding}
 use Rattle.machine.specs.declared.ConfirmPhaseData.{ConfirmPhaseData}
 use Rattle.machine.specs.declared.Input.{Input}

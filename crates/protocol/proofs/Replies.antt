@@ -14,17 +14,17 @@ use Rattle.octets.specs.Octets.{from_octets, word_of}
 use Rattle.octets.proofs.Lists.{part_part}
 use Rattle.crypto.specs.Crypto.{drawn_nonce}
 use Rattle.bond.specs.Bond.{flag_of, bond_of}
-use Rattle.host.specs.Calls.{kind_of}
-use Rattle.host.specs.declared.call.Question.{Question}
-use Rattle.host.specs.declared.call.Question.TheVariants as question
-use Rattle.host.specs.declared.call.Draw.{Draw}
-use Rattle.host.specs.declared.call.Draw.TheVariants as draw
-use Rattle.host.specs.declared.call.Call.{Call}
-use Rattle.host.specs.declared.call.Call.TheVariants as call
-use Rattle.answer.specs.Answers.{answer_length, Found, found, wanted, refusal, answer_refusal, on_found, allowed, body_at, answer_at, pass_key_max}
-use Rattle.answer.specs.Answers.{address_body, pass_key_body, encryption_body, bonded_body, on_present}
-use Rattle.answer.specs.Answers.{verdict_at, flag_at, irk_at, address_at, nonce_at, pass_key_at, ltk_at, ediv_at, rand_at}
-use Rattle.answer.specs.Answers.{encryption_at, bonded_at}
+use Rattle.host_calls.specs.Calls.{kind_of}
+use Rattle.host_calls.specs.declared.call.Question.{Question}
+use Rattle.host_calls.specs.declared.call.Question.TheVariants as question
+use Rattle.host_calls.specs.declared.call.Draw.{Draw}
+use Rattle.host_calls.specs.declared.call.Draw.TheVariants as draw
+use Rattle.host_calls.specs.declared.call.Call.{Call}
+use Rattle.host_calls.specs.declared.call.Call.TheVariants as call
+use Rattle.host_answers.specs.Answers.{answer_length, Found, found, wanted, refusal, answer_refusal, on_found, allowed, body_at, answer_at, pass_key_max}
+use Rattle.host_answers.specs.Answers.{address_body, pass_key_body, encryption_body, bonded_body, on_present}
+use Rattle.host_answers.specs.Answers.{verdict_at, flag_at, irk_at, address_at, nonce_at, pass_key_at, ltk_at, ediv_at, rand_at}
+use Rattle.host_answers.specs.Answers.{encryption_at, bonded_at}
 use Rattle.protocol.specs.Program.{Taken, got, wants, refused}
 use Rattle.protocol.specs.Ops.{Sort, a_verdict, a_flag, an_irk, an_address, a_nonce, a_pass_key, an_ltk, an_ediv, a_rand}
 use Rattle.protocol.specs.Ops.{a_bond, an_option_bond, delivery_of, Holds, reply_sort, Reply, reply_found, taken}

@@ -7,16 +7,16 @@ use mathlib.Core.Bool.{Bool, true, false, ◌||◌}
 use mathlib.Core.List.{List}
 use native.Mathlib.Omega.{arith}
 use Rattle.crypto.specs.declared.crypto.IdentityResolvingKey.{IdentityResolvingKey}
-use Rattle.types.specs.Types.{feature_octets, oob_present, bonding_of, flag, mitm_flag, encryption_key_flag, identity_key_flag}
-use Rattle.types.specs.declared.capabilities.IoCapabilities.{IoCapabilities}
-use Rattle.types.specs.declared.capabilities.IoCapabilities.TheVariants as io
-use Rattle.types.specs.declared.types.Command.TheVariants as command
-use Rattle.types.specs.declared.types.KeyDistributionFlags.{KeyDistributionFlags}
-use Rattle.types.specs.declared.types.PairingFeatures.{PairingFeatures}
+use Rattle.smp_types.specs.Types.{feature_octets, oob_present, bonding_of, flag, mitm_flag, encryption_key_flag, identity_key_flag}
+use Rattle.smp_types.specs.declared.capabilities.IoCapabilities.{IoCapabilities}
+use Rattle.smp_types.specs.declared.capabilities.IoCapabilities.TheVariants as io
+use Rattle.smp_types.specs.declared.types.Command.TheVariants as command
+use Rattle.smp_types.specs.declared.types.KeyDistributionFlags.{KeyDistributionFlags}
+use Rattle.smp_types.specs.declared.types.PairingFeatures.{PairingFeatures}
 use Rattle.util.specs.Method.{has_oob, wants_mitm, legacy_method}
-use Rattle.host.specs.declared.call.Call.TheVariants as call
-use Rattle.host.specs.declared.call.Packet.TheVariants as packet
-use Rattle.host.specs.declared.call.Question.TheVariants as question
+use Rattle.host_calls.specs.declared.call.Call.TheVariants as call
+use Rattle.host_calls.specs.declared.call.Packet.TheVariants as packet
+use Rattle.host_calls.specs.declared.call.Question.TheVariants as question
 use Rattle.machine.specs.declared.Machine.{Machine}
 use Rattle.machine.specs.declared.PairingData.{PairingData}
 use Rattle.machine.specs.Machine.{is_bonding, wishes}

@@ -10,8 +10,8 @@ use lib.Dec.{ltb}
 use lib.ListN.{length, take}
 use borrow.Author.Tests.{lt-ltb, le-ltb}
 use Rattle.octets.specs.Octets.{write_at}
-use Rattle.host.specs.Calls.{call_octets, calls_octets, longest}
-use Rattle.host.specs.declared.call.Call.{Call}
+use Rattle.host_calls.specs.Calls.{call_octets, calls_octets, longest}
+use Rattle.host_calls.specs.declared.call.Call.{Call}
 use Rattle.machine.specs.declared.Input.{Input}
 use Rattle.machine.specs.declared.Machine.{Machine}
 use Rattle.machine.specs.declared.Role.{Role}

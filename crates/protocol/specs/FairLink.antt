@@ -3,18 +3,18 @@
 -- in FairRuns. The order is the section's, but that a word stands before it is used. The terminal is the central, the
 -- head the peripheral. Assumes nothing.
 use Rattle.std.specs.Prelude.{ℕ, zero, suc, ◌≤◌, ◌<◌, ◌≡◌, Bool, true, false, cond, not, ◌&&◌, ◌||◌, List, [], ◌∷◌, ◌++◌, eqb, length, drop, replicate, Option, Some, None, Result, Ok, Err}
-use Rattle.types.specs.Types.{command_code, default_features, feature_octets, least_key_size, largest_key_size}
-use Rattle.types.specs.declared.types.Command.TheVariants as command
-use Rattle.types.specs.declared.types.KeyDistributionFlags.{KeyDistributionFlags}
-use Rattle.types.specs.declared.types.PairingFeatures.{PairingFeatures}
+use Rattle.smp_types.specs.Types.{command_code, default_features, feature_octets, least_key_size, largest_key_size}
+use Rattle.smp_types.specs.declared.types.Command.TheVariants as command
+use Rattle.smp_types.specs.declared.types.KeyDistributionFlags.{KeyDistributionFlags}
+use Rattle.smp_types.specs.declared.types.PairingFeatures.{PairingFeatures}
 use Rattle.util.specs.declared.util.PairingMethod.{PairingMethod}
 use Rattle.util.specs.declared.util.PairingMethod.TheVariants as method
 use Rattle.util.specs.declared.util.PassKeyEntryAction.TheVariants as action
 use Rattle.bond.specs.declared.Address.{Address}
-use Rattle.host.specs.Calls.{packet_command, packet_body, kind_of, longest}
-use Rattle.host.specs.declared.call.Call.{Call}
-use Rattle.host.specs.declared.call.Call.TheVariants as call
-use Rattle.answer.specs.Answers.{pass_key_max}
+use Rattle.host_calls.specs.Calls.{packet_command, packet_body, kind_of, longest}
+use Rattle.host_calls.specs.declared.call.Call.{Call}
+use Rattle.host_calls.specs.declared.call.Call.TheVariants as call
+use Rattle.host_answers.specs.Answers.{pass_key_max}
 use Rattle.machine.specs.Machine.{new_machine, lesc_switch}
 use Rattle.machine.specs.declared.Event.TheVariants as event
 use Rattle.machine.specs.declared.Input.{Input}

@@ -6,22 +6,22 @@ use Rattle.std.specs.Prelude.{ℕ, ◌+◌, ◌*◌, ◌≤◌, ◌≡◌, Bool,
 use Rattle.octets.specs.Octets.{word_of}
 use Rattle.crypto.specs.Crypto.{masked_of}
 use Rattle.crypto.specs.declared.crypto.LongTermKey.{LongTermKey}
-use Rattle.types.specs.Types.{command_code}
-use Rattle.types.specs.declared.types.Command.TheVariants as command
-use Rattle.types.specs.declared.types.PairingFeatures.{PairingFeatures}
+use Rattle.smp_types.specs.Types.{command_code}
+use Rattle.smp_types.specs.declared.types.Command.TheVariants as command
+use Rattle.smp_types.specs.declared.types.PairingFeatures.{PairingFeatures}
 use Rattle.util.specs.Method.{legacy_method}
 use Rattle.util.specs.declared.util.PairingMethod.{PairingMethod}
 use Rattle.util.specs.declared.util.PairingMethod.TheVariants as method
 use Rattle.util.specs.declared.util.PassKeyEntryAction.{PassKeyEntryAction}
 use Rattle.util.specs.declared.util.PassKeyEntryAction.TheVariants as action
 use Rattle.bond.specs.declared.BondInformation.{BondInformation}
-use Rattle.host.specs.Calls.{longest}
-use Rattle.host.specs.declared.call.Call.{Call}
-use Rattle.host.specs.declared.call.Call.TheVariants as call
-use Rattle.host.specs.declared.call.ConnectionEvent.{ConnectionEvent}
-use Rattle.host.specs.declared.call.ConnectionEvent.TheVariants as notice
-use Rattle.host.specs.declared.call.Packet.{Packet}
-use Rattle.host.specs.declared.call.Packet.TheVariants as packet
+use Rattle.host_calls.specs.Calls.{longest}
+use Rattle.host_calls.specs.declared.call.Call.{Call}
+use Rattle.host_calls.specs.declared.call.Call.TheVariants as call
+use Rattle.host_calls.specs.declared.call.ConnectionEvent.{ConnectionEvent}
+use Rattle.host_calls.specs.declared.call.ConnectionEvent.TheVariants as notice
+use Rattle.host_calls.specs.declared.call.Packet.{Packet}
+use Rattle.host_calls.specs.declared.call.Packet.TheVariants as packet
 use Rattle.machine.specs.Machine.{wishes, result_of}
 use Rattle.machine.specs.declared.Input.TheVariants as input
 use Rattle.machine.specs.declared.Machine.{Machine}

@@ -8,13 +8,13 @@ use Rattle.crypto.specs.Crypto.{masked_of}
 use Rattle.crypto.specs.declared.crypto.IdentityResolvingKey.{IdentityResolvingKey}
 use Rattle.crypto.specs.declared.crypto.LongTermKey.{LongTermKey}
 use Rattle.crypto.specs.declared.crypto.Nonce.{Nonce}
-use Rattle.types.specs.Types.{command_code, feature_size, features_of, flag, encryption_key_flag, identity_key_flag, reason_of}
-use Rattle.types.specs.declared.types.Command.{Command}
-use Rattle.types.specs.declared.types.Command.TheVariants as command
-use Rattle.types.specs.declared.types.KeyDistributionFlags.{KeyDistributionFlags}
-use Rattle.types.specs.declared.types.PairingFeatures.{PairingFeatures}
-use Rattle.types.specs.declared.types.Reason.{Reason}
-use Rattle.types.specs.declared.types.Reason.TheVariants as reason
+use Rattle.smp_types.specs.Types.{command_code, feature_size, features_of, flag, encryption_key_flag, identity_key_flag, reason_of}
+use Rattle.smp_types.specs.declared.types.Command.{Command}
+use Rattle.smp_types.specs.declared.types.Command.TheVariants as command
+use Rattle.smp_types.specs.declared.types.KeyDistributionFlags.{KeyDistributionFlags}
+use Rattle.smp_types.specs.declared.types.PairingFeatures.{PairingFeatures}
+use Rattle.smp_types.specs.declared.types.Reason.{Reason}
+use Rattle.smp_types.specs.declared.types.Reason.TheVariants as reason
 use Rattle.util.specs.Method.{security_level}
 use Rattle.util.specs.declared.util.PairingMethod.{PairingMethod}
 use Rattle.bond.specs.Bond.{address_of, address_type}
@@ -23,15 +23,15 @@ use Rattle.bond.specs.declared.BondInformation.{BondInformation}
 use Rattle.bond.specs.declared.Error.{Error}
 use Rattle.bond.specs.declared.Error.TheVariants.{Security, InvalidState, InvalidValue}
 use Rattle.bond.specs.declared.Identity.{Identity}
-use Rattle.host.specs.declared.call.Packet.{Packet}
-use Rattle.host.specs.declared.call.Packet.TheVariants as packet
-use Rattle.host.specs.declared.call.ConnectionEvent.{ConnectionEvent}
-use Rattle.host.specs.declared.call.ConnectionEvent.TheVariants as notice
-use Rattle.host.specs.declared.call.Question.{Question}
-use Rattle.host.specs.declared.call.Question.TheVariants as question
-use Rattle.host.specs.declared.call.Draw.{Draw}
-use Rattle.host.specs.declared.call.Draw.TheVariants as draw
-use Rattle.host.specs.declared.call.Call.TheVariants as call
+use Rattle.host_calls.specs.declared.call.Packet.{Packet}
+use Rattle.host_calls.specs.declared.call.Packet.TheVariants as packet
+use Rattle.host_calls.specs.declared.call.ConnectionEvent.{ConnectionEvent}
+use Rattle.host_calls.specs.declared.call.ConnectionEvent.TheVariants as notice
+use Rattle.host_calls.specs.declared.call.Question.{Question}
+use Rattle.host_calls.specs.declared.call.Question.TheVariants as question
+use Rattle.host_calls.specs.declared.call.Draw.{Draw}
+use Rattle.host_calls.specs.declared.call.Draw.TheVariants as draw
+use Rattle.host_calls.specs.declared.call.Call.TheVariants as call
 use Rattle.machine.specs.Machine.{kept_by, no_confirm_data, want_bonding}
 use Rattle.machine.specs.declared.ConfirmPhaseData.{ConfirmPhaseData}
 use Rattle.machine.specs.declared.Event.TheVariants as event

@@ -9,17 +9,17 @@ use Rattle.crypto.specs.Crypto.{c1_of, s1_of}
 use Rattle.crypto.specs.declared.crypto.Confirm.{Confirm}
 use Rattle.crypto.specs.declared.crypto.LongTermKey.{LongTermKey}
 use Rattle.crypto.specs.declared.crypto.Nonce.{Nonce}
-use Rattle.types.specs.declared.types.Command.TheVariants as command
-use Rattle.types.specs.declared.types.Reason.TheVariants as reason
+use Rattle.smp_types.specs.declared.types.Command.TheVariants as command
+use Rattle.smp_types.specs.declared.types.Reason.TheVariants as reason
 use Rattle.util.specs.Method.{legacy_method}
 use Rattle.util.specs.declared.util.PairingMethod.{PairingMethod}
 use Rattle.util.specs.declared.util.PairingMethod.TheVariants as method
 use Rattle.util.specs.declared.util.PassKeyEntryAction.TheVariants as action
 use Rattle.bond.specs.Bond.{bd_addr_octets}
 use Rattle.bond.specs.declared.Error.TheVariants.{Security, InvalidValue}
-use Rattle.host.specs.declared.call.ConnectionEvent.TheVariants as notice
-use Rattle.host.specs.declared.call.Draw.TheVariants as draw
-use Rattle.host.specs.declared.call.Packet.TheVariants as packet
+use Rattle.host_calls.specs.declared.call.ConnectionEvent.TheVariants as notice
+use Rattle.host_calls.specs.declared.call.Draw.TheVariants as draw
+use Rattle.host_calls.specs.declared.call.Packet.TheVariants as packet
 use Rattle.machine.specs.Machine.{no_confirm_data, want_bonding}
 use Rattle.machine.specs.declared.ConfirmPhaseData.{ConfirmPhaseData}
 use Rattle.machine.specs.declared.Input.{Input}

@@ -8,27 +8,27 @@ use Rattle.std.specs.Prelude.{ℕ, Bool, true, false, not, List, Option, Some, N
 use Rattle.crypto.specs.Crypto.{c1_of, s1_of}
 use Rattle.crypto.specs.declared.crypto.Confirm.{Confirm}
 use Rattle.crypto.specs.declared.crypto.Nonce.{Nonce}
-use Rattle.types.specs.Types.{bonding_code, feature_octets, with_flag, mitm_flag, encryption_key_flag, identity_key_flag}
-use Rattle.types.specs.declared.capabilities.IoCapabilities.{IoCapabilities}
-use Rattle.types.specs.declared.capabilities.IoCapabilities.TheVariants as io
-use Rattle.types.specs.declared.types.AuthReq.{AuthReq}
-use Rattle.types.specs.declared.types.BondingFlag.TheVariants.{NoBonding, Bonding}
-use Rattle.types.specs.declared.types.Command.TheVariants as command
-use Rattle.types.specs.declared.types.KeyDistributionFlags.{KeyDistributionFlags}
-use Rattle.types.specs.declared.types.PairingFeatures.{PairingFeatures}
-use Rattle.types.specs.declared.types.Reason.TheVariants as reason
-use Rattle.types.specs.declared.types.UseOutOfBand.{UseOutOfBand}
-use Rattle.types.specs.declared.types.UseOutOfBand.TheVariants.{Present}
+use Rattle.smp_types.specs.Types.{bonding_code, feature_octets, with_flag, mitm_flag, encryption_key_flag, identity_key_flag}
+use Rattle.smp_types.specs.declared.capabilities.IoCapabilities.{IoCapabilities}
+use Rattle.smp_types.specs.declared.capabilities.IoCapabilities.TheVariants as io
+use Rattle.smp_types.specs.declared.types.AuthReq.{AuthReq}
+use Rattle.smp_types.specs.declared.types.BondingFlag.TheVariants.{NoBonding, Bonding}
+use Rattle.smp_types.specs.declared.types.Command.TheVariants as command
+use Rattle.smp_types.specs.declared.types.KeyDistributionFlags.{KeyDistributionFlags}
+use Rattle.smp_types.specs.declared.types.PairingFeatures.{PairingFeatures}
+use Rattle.smp_types.specs.declared.types.Reason.TheVariants as reason
+use Rattle.smp_types.specs.declared.types.UseOutOfBand.{UseOutOfBand}
+use Rattle.smp_types.specs.declared.types.UseOutOfBand.TheVariants.{Present}
 use Rattle.util.specs.Method.{legacy_method}
 use Rattle.util.specs.declared.util.PairingMethod.{PairingMethod}
 use Rattle.util.specs.declared.util.PairingMethod.TheVariants as method
 use Rattle.util.specs.declared.util.PassKeyEntryAction.TheVariants as action
 use Rattle.bond.specs.Bond.{bd_addr_octets}
 use Rattle.bond.specs.declared.Error.TheVariants.{Security, InvalidValue}
-use Rattle.host.specs.declared.call.ConnectionEvent.TheVariants as notice
-use Rattle.host.specs.declared.call.Draw.TheVariants as draw
-use Rattle.host.specs.declared.call.Packet.TheVariants as packet
-use Rattle.host.specs.declared.call.Question.TheVariants as question
+use Rattle.host_calls.specs.declared.call.ConnectionEvent.TheVariants as notice
+use Rattle.host_calls.specs.declared.call.Draw.TheVariants as draw
+use Rattle.host_calls.specs.declared.call.Packet.TheVariants as packet
+use Rattle.host_calls.specs.declared.call.Question.TheVariants as question
 use Rattle.machine.specs.Machine.{no_confirm_data, want_bonding}
 use Rattle.machine.specs.declared.ConfirmPhaseData.{ConfirmPhaseData}
 use Rattle.machine.specs.declared.Input.{Input}

@@ -6,17 +6,17 @@ use Rattle.std.specs.Prelude.{ℕ, ◌+◌, Bool, cond, List, eqb, Option, Resul
 use Rattle.crypto.specs.declared.crypto.IdentityResolvingKey.{IdentityResolvingKey}
 use Rattle.crypto.specs.declared.crypto.LongTermKey.{LongTermKey}
 use Rattle.crypto.specs.declared.crypto.Nonce.{Nonce}
-use Rattle.types.specs.declared.types.PassKey.{PassKey}
+use Rattle.smp_types.specs.declared.types.PassKey.{PassKey}
 use Rattle.bond.specs.Bond.{verdict_error}
 use Rattle.bond.specs.declared.Error.{Error}
-use Rattle.host.specs.Calls.{kind_of}
-use Rattle.host.specs.declared.call.Question.{Question}
-use Rattle.host.specs.declared.call.Question.TheVariants as question
-use Rattle.host.specs.declared.call.Draw.{Draw}
-use Rattle.host.specs.declared.call.Draw.TheVariants as draw
-use Rattle.host.specs.declared.call.Call.{Call}
-use Rattle.host.specs.declared.call.Call.TheVariants as call
-use Rattle.answer.specs.Answers.{answer_length, Found, found, wanted, refusal, on_found, verdict_at, flag_at, irk_at, address_at, nonce_at, pass_key_at, ltk_at, ediv_at, rand_at, encryption_at, bonded_at}
+use Rattle.host_calls.specs.Calls.{kind_of}
+use Rattle.host_calls.specs.declared.call.Question.{Question}
+use Rattle.host_calls.specs.declared.call.Question.TheVariants as question
+use Rattle.host_calls.specs.declared.call.Draw.{Draw}
+use Rattle.host_calls.specs.declared.call.Draw.TheVariants as draw
+use Rattle.host_calls.specs.declared.call.Call.{Call}
+use Rattle.host_calls.specs.declared.call.Call.TheVariants as call
+use Rattle.host_answers.specs.Answers.{answer_length, Found, found, wanted, refusal, on_found, verdict_at, flag_at, irk_at, address_at, nonce_at, pass_key_at, ltk_at, ediv_at, rand_at, encryption_at, bonded_at}
 use Rattle.protocol.specs.Program.{Prog, Taken, got, wants, refused}
 use Rattle.bond.specs.declared.Address.{Address}
 use Rattle.bond.specs.declared.BondInformation.{BondInformation}

@@ -4,10 +4,10 @@
 use Rattle.std.specs.Prelude.{ℕ, Bool, true, false, cond, List, ltb, length}
 use Rattle.octets.specs.Answer.{Answer, refused, accepted}
 use Rattle.octets.specs.Octets.{write_at}
-use Rattle.types.specs.Types.{command_of}
-use Rattle.host.specs.Calls.{calls_octets, longest}
-use Rattle.host.specs.declared.call.Call.{Call}
-use Rattle.answer.specs.Answers.{answer_refusal}
+use Rattle.smp_types.specs.Types.{command_of}
+use Rattle.host_calls.specs.Calls.{calls_octets, longest}
+use Rattle.host_calls.specs.declared.call.Call.{Call}
+use Rattle.host_answers.specs.Answers.{answer_refusal}
 use Rattle.machine.specs.declared.Input.{Input}
 use Rattle.machine.specs.declared.Input.TheVariants as input
 use Rattle.machine.specs.declared.Machine.{Machine}

@@ -1,11 +1,11 @@
-// Answers step lines from standard input, to its end: a shell over `lines`, `answer_lines` and the entry by reference. What it does
+// Answers step lines from standard input, to its end: a shell over `line_reading`, `line_writing` and the entry by reference. What it does
 // with the lines is proved there; that it cuts its input at line feeds, and answers a last line without one as malformed, is tested.
 #![tactic(auto)]
 
-use answer_lines::{write_answer, write_malformed};
 use arrayvec::ArrayVec;
 use entry::step_local;
-use lines::{MOST, read_line};
+use line_reading::{MOST, read_line};
+use line_writing::{write_answer, write_malformed};
 use std::io;
 use std::io::Read;
 

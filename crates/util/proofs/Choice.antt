@@ -1,7 +1,7 @@
 -- Numeric Comparison is never chosen. Assumes nothing.
 use borrow.Author.Rules.{rules}
 use mathlib.Core.Path.{◌≡◌}
-use Rattle.types.specs.declared.types.PairingFeatures.{PairingFeatures}
+use Rattle.smp_types.specs.declared.types.PairingFeatures.{PairingFeatures}
 use Rattle.util.specs.declared.util.PairingMethod.TheVariants.{NumericComparison}
 use Rattle.util.specs.Method.{legacy_method}
 

@@ -1,10 +1,10 @@
 -- Believed: the archive's contracts, demand 3 and the worked cases rest on it.
 -- The method of LE legacy pairing, Vol 3 Part H, 2.3.5.1, and its security level. Assumes nothing.
 use Rattle.std.specs.Prelude.{ℕ, Bool, cond, not, ◌&&◌, List, [], ◌∷◌, get_or}
-use Rattle.types.specs.declared.capabilities.IoCapabilities.{IoCapabilities}
-use Rattle.types.specs.declared.types.PairingFeatures.{PairingFeatures}
-use Rattle.types.specs.Capabilities.{io_code}
-use Rattle.types.specs.Types.{oob_present, flag, mitm_flag}
+use Rattle.smp_types.specs.declared.capabilities.IoCapabilities.{IoCapabilities}
+use Rattle.smp_types.specs.declared.types.PairingFeatures.{PairingFeatures}
+use Rattle.smp_types.specs.Capabilities.{io_code}
+use Rattle.smp_types.specs.Types.{oob_present, flag, mitm_flag}
 use Rattle.util.specs.declared.connection.SecurityLevel.{SecurityLevel}
 use Rattle.util.specs.declared.connection.SecurityLevel.TheVariants.{NoEncryption, Encrypted, EncryptedAuthenticated}
 use Rattle.util.specs.declared.util.PassKeyEntryAction.TheVariants.{Display, Input}

@@ -2,10 +2,10 @@ ghost use Rattle.std.specs.Prelude.{◌≡◌, ◌⊎◌};
 ghost use Rattle.util.specs.Method.{level_code, security_level, io_method, legacy_method};
 
 use crate::connection::SecurityLevel;
-use types::IoCapabilities::{
+use smp_types::IoCapabilities::{
     DisplayOnly, DisplayYesNo, KeyboardDisplay, KeyboardOnly, NoInputNoOutput,
 };
-use types::{IoCapabilities, PairingFeatures};
+use smp_types::{IoCapabilities, PairingFeatures};
 
 #[derive(Clone, Copy, PartialEq, Eq)]
 pub enum PassKeyEntryAction {
