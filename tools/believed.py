@@ -1,9 +1,13 @@
 #!/usr/bin/env python3
-# Which files of definitions a reader has to believe: those that the archive's contracts, demand 3 and the worked cases
-# rest on, by the names of files in their text, comments apart. Run at the root of the repository.
-#     tools/believed.py
-# prints a line for each file of definitions, with what rests on it. A first line of such a file, or README's table, that
-# says otherwise is a finding. It ends with 'believed: N, inner: N, findings: N'; exit status 0 with no finding, else 1.
+"""Which files of definitions a reader has to believe: those that the archive's contracts, demand 3 and the worked
+cases rest on, by the names of files in their text, comments apart.
+
+  tools/believed.py      at the root of the repository
+
+Prints a line for each file of definitions, with what rests on it. A first line of such a file, or the table of
+docs/DEFINITIONS.md, that says otherwise is a finding. The last line is `believed: N, inner: N, findings: N`; exit
+status 0 with no finding, else 1.
+"""
 import glob
 import os
 import re
@@ -14,6 +18,7 @@ ROOTS = {
     'demand 3': ['crates/protocol/specs/FairRuns.antt'],
     'worked cases': ['crates/cases/specs/Cases.antt'],
 }
+PAGE = 'docs/DEFINITIONS.md'
 SPECS = sorted(f for f in glob.glob('crates/*/specs/*.antt') if os.path.basename(f) != 'Lib.antt')
 
 
@@ -39,10 +44,13 @@ def reached(roots):
 
 
 def main():
+    if sys.argv[1:2] in (['-h'], ['--help']):
+        print(__doc__.strip())
+        return 0
     rests = {name: reached(roots) for name, roots in ROOTS.items()}
-    readme = text('README.md')
-    table = '\n'.join(line for line in readme.split('\n') if line.startswith('|'))
-    told = re.search(r'are the (\d+) files below', readme), re.search(r'The other (\d+) files of definitions', readme)
+    page = text(PAGE)
+    table = '\n'.join(line for line in page.split('\n') if line.startswith('|'))
+    told = re.search(r'are the (\d+) files below', page), re.search(r'The other (\d+) files of definitions', page)
     believed, findings = 0, []
     for file in SPECS:
         on_it = [name for name in ROOTS if file in rests[name]]
@@ -56,14 +64,15 @@ def main():
         believed += bool(on_it)
         listed = re.search(r'`(crates/%s/specs/)?%s`' % tuple(file.split('/')[1::2]), table)
         if bool(listed) != bool(on_it):
-            findings.append(f"README.md: {file} is {'not ' if on_it else ''}in its table")
+            findings.append(f"{PAGE}: {file} is {'not ' if on_it else ''}in its table")
     counts = [str(believed), str(len(SPECS) - believed)]
     for found, count in zip(told, counts):
         if not found or found.group(1) != count:
-            findings.append(f"README.md: says {found.group(1) if found else 'nothing'} where {count} is right")
+            findings.append(f"{PAGE}: says {found.group(1) if found else 'nothing'} where {count} is right")
     print('\n'.join(findings), end='\n' if findings else '')
     print(f'believed: {counts[0]}, inner: {counts[1]}, findings: {len(findings)}')
     return 1 if findings else 0
 
 
-sys.exit(main())
+if __name__ == '__main__':
+    sys.exit(main())

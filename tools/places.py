@@ -1,8 +1,11 @@
 #!/usr/bin/env python3
-# Lists the places in crates/*/src that are written as an older Rattle needed it, by the points of docs/DESIGN-PASS.md.
-#     tools/places.py [--list] [COMMIT]
-# counts them in a commit, or in the files as they stand, point by point and crate by crate; --list shows each. It reads
-# the text alone: a line is a place to look at, and what stays has its reason beside it.
+"""Lists the places in crates/*/src that are written as an older Rattle needed it, by the points of docs/DESIGN-PASS.md.
+
+  tools/places.py [--list] [COMMIT]
+
+Counts them in a commit, or in the files as they stand, point by point and crate by crate; --list shows each. It reads
+the text alone: a line is a place to look at, and what stays has its reason beside it.
+"""
 import re
 import subprocess
 import sys
@@ -142,4 +145,7 @@ def main(args):
                 print('        ' + text)
 
 
-main(sys.argv[1:])
+if sys.argv[1:2] in (['-h'], ['--help']):
+    print(__doc__.strip())
+else:
+    main(sys.argv[1:])

@@ -1,11 +1,13 @@
 #!/usr/bin/env python3
 """Gives crates the names that say what is in them. Run once on this repository; kept for texts that have the old names.
 
-usage: tools/rename_crates.py [FOLDER]      the repository's root where not given
+usage: tools/rename_crates.py FOLDER
 
-Folders under crates/ move; in files the script turns `NAME::` in code, `Rattle.NAME.` in definitions and proofs, paths
-such as crates/NAME/src and NAME/specs, and in pages and comments a name between backticks. A diff is turned as the
-files are that it names. What happened before keeps the names of its time: docs/LANDINGS.md, PORT.md, DESIGN-PASS.md.
+Folders of crates move; in files the script turns `NAME::` in code, `Rattle.NAME.` in definitions and proofs (also with the
+middle dots of an older Rattle), paths such as crates/NAME/src and NAME/specs, lines of a crates.txt, and in pages and
+comments a name between backticks or behind the word crate. A diff is turned as the files are that it names; the rest of an
+older syntax stays. What happened before keeps the names of its time: docs/LANDINGS.md, PORT.md, DESIGN-PASS.md. A folder
+that has a crate of a new name is left alone.
 """
 import os
 import re
@@ -44,44 +46,71 @@ def ticked(line):
 
 
 def turn(path, text):
-    own = re.match(r'(?:.*/)?crates/(\w+)/', path)
+    """A file's text, whose path says which crate it is of."""
+    own = re.match(r'(?:.*/)?(?:crates|code)/(\w+)/', path)
     own = own.group(1) if own else ''
     text = paths(text)
-    if path.endswith(('.rt', '.antt', '.edit', '.diff', '.md')):
-        text = re.sub(rf'\bRattle\.(?P<name>{ANY})\.', new, text)
-    if path.endswith(('.rt', '.edit', '.diff', '.antt', '.md')):
-        # a module of a crate may have a crate's name: `types` of smp_types
-        def code(m):
-            return m.group(0) if m.group('name') == own or own == NEW[m.group('name')] else new(m)
+    if path.endswith('crates.txt'):
+        return re.sub(rf'(?<!\w)(?P<name>{ANY})(?!\w)', new, text)
+    text = re.sub(rf'\bRattle[.\u00b7](?P<name>{ANY})(?=[.\u00b7])', new, text)
+
+    # a module of a crate may have a crate's name: `types` of smp_types
+    def code(m):
+        return m.group(0) if m.group('name') == own or own == NEW[m.group('name')] else new(m)
+    if not path.endswith(('.rs', '.c', '.h', '.py')):
         text = re.sub(rf'(?<![\w:.])(?P<name>{ANY})(?=::)', code, text)
-    if path.endswith('.md') or re.search(r'crates/\w+/src/', path):
+    if path.endswith('.md') or re.search(r'(?:crates|code)/\w+/(?:src/)?', path):
         text = '\n'.join(ticked(line) for line in text.split('\n'))
+        text = re.sub(rf'(?<=\bcrate )(?P<name>{ANY})\b', new, text)
     return text
 
 
-def main():
-    top = os.path.abspath(sys.argv[1] if len(sys.argv) > 1 else os.path.join(os.path.dirname(__file__), '..'))
-    crates = os.path.join(top, 'crates')
+def turn_diff(text):
+    """A diff, part by part, each as the file that it names."""
+    parts = re.split(r'(?m)^(?=diff --git |--- a/)', text)
+    named = (re.search(r'^(?:diff --git a/|--- a/|\+\+\+ b/)(\S+)', part, re.M) for part in parts)
+    return ''.join(turn(found.group(1) if found else '', part) for part, found in zip(parts, named))
+
+
+def files_of(top):
     tracked = subprocess.run(['git', '-C', top, 'ls-files'], capture_output=True, text=True)
     names = tracked.stdout.split('\n') if tracked.returncode == 0 else []
-    if not any(names):
-        names = [os.path.relpath(os.path.join(folder, name), top) for folder, _, files in os.walk(top) for name in files]
-    for name in names:
+    if any(names):
+        return names
+    return [os.path.relpath(os.path.join(folder, name), top) for folder, _, found in os.walk(top) for name in found]
+
+
+def move(folder):
+    """Folders of crates, first away from the names that another one takes."""
+    moved = [old for old in NEW if os.path.isdir(os.path.join(folder, old))]
+    for old in moved:
+        os.rename(os.path.join(folder, old), os.path.join(folder, '+' + old))
+    for old in moved:
+        os.rename(os.path.join(folder, '+' + old), os.path.join(folder, NEW[old]))
+
+
+def main():
+    if len(sys.argv) != 2 or sys.argv[1] in ('-h', '--help'):
+        print(__doc__.strip())
+        sys.exit(0 if len(sys.argv) == 2 else 2)
+    top = os.path.abspath(sys.argv[1])
+    folders = [folder for folder, _, _ in os.walk(top) if os.path.basename(folder) in ('crates', 'code')]
+    for folder in folders:
+        for name in set(NEW.values()) - set(NEW):
+            if os.path.isdir(os.path.join(folder, name)):
+                sys.exit(f'rename_crates: {folder} has {name}: it has run here before')
+    for name in files_of(top):
         path = os.path.join(top, name)
         if name in HISTORY or not name.endswith(CODE) or not os.path.isfile(path) or os.path.islink(path):
             continue
         with open(path, encoding='utf-8', newline='') as f:
             text = f.read()
-        turned = turn(name, text)
+        turned = turn_diff(text) if name.endswith('.diff') else turn(name, text)
         if turned != text:
             with open(path, 'w', encoding='utf-8', newline='') as f:
                 f.write(turned)
-    # first away from the names that another one takes
-    moved = [old for old in NEW if os.path.isdir(os.path.join(crates, old))]
-    for old in moved:
-        os.rename(os.path.join(crates, old), os.path.join(crates, '+' + old))
-    for old in moved:
-        os.rename(os.path.join(crates, '+' + old), os.path.join(crates, NEW[old]))
+    for folder in folders:
+        move(folder)
 
 
 if __name__ == '__main__':

@@ -9,6 +9,7 @@ src/ stay. In pages and in comments a name with a dash is changed only between b
 """
 import os
 import re
+import sys
 
 TOP = os.path.dirname(os.path.dirname(os.path.realpath(__file__)))
 NAMES = dict(line.rstrip("\n").split("\t") for line in open(os.path.join(TOP, "tools", "respell.tsv"), encoding="utf-8"))
@@ -85,6 +86,9 @@ def files():
 
 
 def main():
+    if sys.argv[1:2] in (['-h'], ['--help']):
+        print(__doc__.strip())
+        return
     with open(os.path.join(TOP, "crates/protocol/specs/Step.antt"), encoding="utf-8") as f:
         if NAMES["handleInput"] in f.read():
             raise SystemExit("respell: it has run here before. A second run would turn new names that are also old ones")

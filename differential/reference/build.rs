@@ -1,5 +1,5 @@
 //! Lays the Rust texts out under OUT_DIR as a module tree. The texts come from the folder that
-//! `DOCS_SRC` names (default: docs/src beside the repository) and are not kept in it.
+//! `DOCS_SRC` names (default: trouble-host-0.8.0 beside the repository) and are not kept in it.
 //!
 //! A text is written as it stands; one line may follow it, which names a child module, so that
 //! private states can be built and read back. Stand-ins and child modules are copied beside.
@@ -65,7 +65,7 @@ fn lay_out() -> Result<(), String> {
     let here = PathBuf::from(env::var("CARGO_MANIFEST_DIR").map_err(|e| e.to_string())?);
     let out = PathBuf::from(env::var("OUT_DIR").map_err(|e| e.to_string())?);
     println!("cargo:rerun-if-env-changed=DOCS_SRC");
-    let docs = here.join(env::var("DOCS_SRC").unwrap_or_else(|_| "../../../shared/docs/src".into()));
+    let docs = here.join(env::var("DOCS_SRC").unwrap_or_else(|_| "../../../trouble-host-0.8.0".into()));
     let tree = out.join("tree");
     for (path, line) in TEXTS {
         put(&tree.join(path), &(text(&docs, path)? + line))?;
@@ -85,7 +85,7 @@ fn text(docs: &Path, path: &str) -> Result<String, String> {
     let nested = docs.join("src").join(path);
     let flat = docs.join(format!("src--src--{}.txt", path.replace('/', "--")));
     let found = [nested, flat].into_iter().find(|p| p.is_file());
-    let place = found.ok_or(format!("{} holds no src/{path}; DOCS_SRC names the folder docs/src", docs.display()))?;
+    let place = found.ok_or(format!("{} holds no src/{path}; DOCS_SRC names the folder that has src/", docs.display()))?;
     read(&place)
 }
 

@@ -1,6 +1,6 @@
 //! A terminal and a head, of the archive or of the Rust, their hosts, and the link between them.
 
-use legacy_pairing::{Machine, Outcome, CALL_LIST};
+use legacy_pairing::{size, Machine, Outcome};
 use reference::native::{self, Answers, Draws};
 use reference::{Input, Role};
 
@@ -219,13 +219,13 @@ fn deal(list: &[u8], desk: &mut Desk) {
 /// The archive's machine, and a call list for its steps: each step is run once, with all answers.
 pub struct Port {
     pub machine: Machine,
-    list: [u8; CALL_LIST],
+    list: [u8; size::CALL_LIST],
 }
 
 impl End for Port {
     fn begin(side: &Side) -> Self {
         let machine = Machine::new(port_role(side.role), &side.own, &side.peer, &side.features);
-        Self { machine: machine.expect("features that are read"), list: [0; CALL_LIST] }
+        Self { machine: machine.expect("features that are read"), list: [0; size::CALL_LIST] }
     }
 
     fn step(&mut self, input: Input, payload: &[u8], answers: &[u8], _: &Side, desk: &mut Desk) {
@@ -245,13 +245,13 @@ pub struct Asking {
     machine: Machine,
     pub answers: Octets,
     /// The calls of the last step.
-    pub list: [u8; CALL_LIST],
+    pub list: [u8; size::CALL_LIST],
     pub written: usize,
 }
 
 impl End for Asking {
     fn begin(side: &Side) -> Self {
-        Self { machine: Port::begin(side).machine, answers: Octets::NONE, list: [0; CALL_LIST], written: 0 }
+        Self { machine: Port::begin(side).machine, answers: Octets::NONE, list: [0; size::CALL_LIST], written: 0 }
     }
 
     fn step(&mut self, input: Input, payload: &[u8], _: &[u8], side: &Side, desk: &mut Desk) {

@@ -15,8 +15,8 @@ use reference::machine::PHASES;
 use reference::{Input, Role};
 use time::{Race, Times, BATCH, PAIRINGS};
 
-/// The pairings, the number of their inputs and the head's last phase.
-fn cases() -> Vec<(Case, usize, u8)> {
+/// The pairings, the number of their inputs, and whether the head succeeds or stays pending.
+fn cases() -> Vec<(Case, usize, bool)> {
     let case = |name, terminal, head, late_entries| Case {
         name,
         sides: [Side::new(Role::Central, terminal), Side::new(Role::Peripheral, head)],
@@ -26,13 +26,13 @@ fn cases() -> Vec<(Case, usize, u8)> {
     let (bonding, alone, oob) = ([3, 0, 1, 16, 3, 3], [3, 0, 0, 16, 0, 3], [3, 1, 5, 16, 3, 3]);
     let (shows, types) = ([0, 0, 5, 16, 3, 3], [2, 0, 5, 9, 3, 3]);
     vec![
-        (case("Just Works, both bond", bonding, bonding, false), 16, 9),
-        (case("passkey, the terminal shows, the head types", shows, types, false), 17, 9),
-        (case("the same, typed after the Confirm came", shows, types, true), 17, 9),
-        (case("passkey, the head shows, the terminal types", types, shows, false), 17, 9),
-        (case("passkey, both type", types, types, false), 18, 9),
-        (case("out of band", oob, oob, false), 18, 9),
-        (case("the head does not bond (the excepted case)", bonding, alone, false), 8, 6),
+        (case("Just Works, both bond", bonding, bonding, false), 16, true),
+        (case("passkey, the terminal shows, the head types", shows, types, false), 17, true),
+        (case("the same, typed after the Confirm came", shows, types, true), 17, true),
+        (case("passkey, the head shows, the terminal types", types, shows, false), 17, true),
+        (case("passkey, both type", types, types, false), 18, true),
+        (case("out of band", oob, oob, false), 18, true),
+        (case("the head does not bond (the excepted case)", bonding, alone, false), 8, false),
     ]
 }
 
@@ -129,7 +129,7 @@ impl Watch<Asking> for Turns {
 
 impl Watch<Port> for Turns {
     fn before(&mut self, at: usize, input: Input, payload: &[u8], end: &Port) {
-        self.0.push(Turn { port: Some(end.machine), ..Turn::begun(at, input, payload, end.record()) });
+        self.0.push(Turn { port: Some(end.machine.clone()), ..Turn::begun(at, input, payload, end.record()) });
     }
     fn after(&mut self, end: &Port) {
         self.0.last_mut().expect("begun").to = end.record();
@@ -146,7 +146,7 @@ impl Watch<Rust> for Turns {
 }
 
 /// Plays a case in three ways, which have to agree at every turn, and gives its turns.
-fn check(case: &mut Case, inputs: usize, head_phase: u8) -> Vec<Turn> {
+fn check(case: &mut Case, inputs: usize, head_succeeds: bool) -> Vec<Turn> {
     let (mut asked, mut ported, mut rusts) = (Turns(Vec::new()), Turns(Vec::new()), Turns(Vec::new()));
     Link::<Asking>::play(case, &mut asked);
     case.answers = asked.0.iter().map(|turn| turn.answers.clone()).collect();
@@ -168,20 +168,22 @@ fn check(case: &mut Case, inputs: usize, head_phase: u8) -> Vec<Turn> {
     }
     assert_eq!(port.desks[0].encryption(), port.desks[1].encryption(), "{name}: one key at both ends");
     assert_ne!(port.desks[0].encryption()[..16], [0; 16], "{name}: a key");
-    assert_eq!((port.ends[0].record()[0], port.ends[1].record()[0]), (9, head_phase), "{name}: the last phases");
+    let statuses = [0, 1].map(|at| port.ends[at].machine.status().expect("a record that a step wrote"));
+    assert_eq!(statuses.map(|s| s.result), [Some(Ok(())), head_succeeds.then_some(Ok(()))], "{name}: how they end");
+    assert!(statuses.iter().all(|s| s.is_encrypted), "{name}: encrypted");
     asked.0
 }
 
 /// One step of both, each time on a machine of its own that stood there before.
 fn race_step(race: &mut Race, turn: &Turn, side: &Side) {
-    let (port, rust) = (turn.port.expect("checked"), turn.rust.as_ref().expect("checked"));
-    let (mut ports, mut rusts) = (vec![port; BATCH], vec![rust.clone(); BATCH]);
-    let mut list = [0; legacy_pairing::CALL_LIST];
+    let (port, rust) = (turn.port.as_ref().expect("checked"), turn.rust.as_ref().expect("checked"));
+    let (mut ports, mut rusts) = (vec![port.clone(); BATCH], vec![rust.clone(); BATCH]);
+    let mut list = [0; legacy_pairing::size::CALL_LIST];
     let mut desk = Desk::new();
     race.run(
         BATCH,
         |clock| {
-            ports.fill(port);
+            ports.fill(port.clone());
             let (input, payload, answers) = black_box((turn.input, &turn.payload[..], &turn.answers[..]));
             clock.start();
             for machine in &mut ports {
@@ -268,13 +270,13 @@ fn heading(name: &str) {
 
 /// The same work again and again.
 fn profile(case: &Case, turn: Option<&Turn>, is_port: bool, count: usize) {
-    let (mut list, mut desk) = ([0; legacy_pairing::CALL_LIST], Desk::new());
+    let (mut list, mut desk) = ([0; legacy_pairing::size::CALL_LIST], Desk::new());
     for _ in 0..count {
         match (turn, is_port) {
             (None, true) => drop(black_box(Link::<Port>::play(black_box(case), &mut Nobody))),
             (None, false) => drop(black_box(Link::<Rust>::play(black_box(case), &mut Nobody))),
             (Some(turn), true) => {
-                let mut machine = turn.port.expect("checked");
+                let mut machine = turn.port.clone().expect("checked");
                 let stepped = machine.step(port_input(turn.input, &turn.payload), black_box(&turn.answers), &mut list);
                 black_box((&stepped, &machine));
             }
@@ -295,7 +297,8 @@ fn main() {
     let short = arguments.get(1).is_some_and(|a| a == "short");
 
     let mut cases = cases();
-    let turns: Vec<Vec<Turn>> = cases.iter_mut().map(|(case, inputs, phase)| check(case, *inputs, *phase)).collect();
+    let turns: Vec<Vec<Turn>> =
+        cases.iter_mut().map(|(case, inputs, succeeds)| check(case, *inputs, *succeeds)).collect();
     if let [play, end, count, turn @ ..] = &arguments[..] {
         assert!(play == "play" && turn.len() < 2, "play port|rust N [TURN]");
         let turn = turn.first().map(|n| &turns[0][n.parse::<usize>().expect("a number")]);

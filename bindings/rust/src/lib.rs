@@ -1,46 +1,160 @@
-//! The legacy pairing machines of a quay terminal (central) and a scale's radio head (peripheral), proved in Rattle and
-//! linked from liblegacy_pairing.a. This crate is safe to use, and allocates nothing.
+//! The legacy pairing machines of a quay terminal (central) and a scale's radio head (peripheral), proved in
+//! Rattle and linked from liblegacy_pairing.a. This crate is safe to use, and allocates nothing.
 //!
-//! Octet strings run least significant octet first, as on the air.
+//! A machine is one end of one pairing. Each packet from the peer and each event is an input, and each input
+//! a [step](Machine::step), which lists calls: packets to send, events to tell, questions, draws. A step that
+//! wants an answer to its last call is run again with that answer added. Octet strings run least significant
+//! octet first, as on the air.
+//!
+//! A whole pairing of two ends, Just Works and without bonds:
+//!
+//! ```
+//! use legacy_pairing::{address, auth, bond, call, command, features, io, level, size, verdict, NO};
+//! use legacy_pairing::{call_at, count_calls, write_features};
+//! use legacy_pairing::{Features, Input, Machine, Outcome, Refusal, Role, Status};
+//!
+//! /// An end: its machine, the packets that it has sent, and whether it has called for encryption.
+//! struct End {
+//!     machine: Machine,
+//!     sent: Vec<(u8, Vec<u8>)>,
+//!     encrypts: bool,
+//! }
+//!
+//! impl End {
+//!     fn new(machine: Machine) -> Self {
+//!         Self { machine, sent: Vec::new(), encrypts: false }
+//!     }
+//!
+//!     /// Does what a call asks for, and gives the body of the answer.
+//!     fn answer(&mut self, kind: u8, body: &[u8]) -> Vec<u8> {
+//!         match kind {
+//!             call::SEND_PAIRING_RESPONSE..=call::SEND_IDENTITY_ADDRESS_INFORMATION => {
+//!                 self.sent.push((kind, body.to_vec()));
+//!                 vec![verdict::DONE]
+//!             }
+//!             call::ASK_FIND_BOND | call::ASK_BONDING_FLAG | call::ASK_OOB_AVAILABLE => vec![NO],
+//!             call::DRAW_NONCE => vec![7; call::DRAW_NONCE_ANSWER_SIZE], // a host draws it at random
+//!             call::ENABLE_ENCRYPTION => {
+//!                 self.encrypts = true;
+//!                 // The bond of this key. It has the peer's address too, which is left out here.
+//!                 let mut answer = vec![0; call::ENABLE_ENCRYPTION_ANSWER_SIZE];
+//!                 answer[verdict::OFFSET] = verdict::DONE;
+//!                 let held = &mut answer[call::ENABLE_ENCRYPTION_ANSWER_BOND_OFFSET..];
+//!                 held[bond::LTK_OFFSET..][..size::VALUE]
+//!                     .copy_from_slice(&body[call::ENABLE_ENCRYPTION_BODY_KEY_OFFSET..][..size::VALUE]);
+//!                 held[bond::LEVEL_OFFSET] = body[call::ENABLE_ENCRYPTION_BODY_LEVEL_OFFSET];
+//!                 answer
+//!             }
+//!             // Events. The other questions and draws are not reached without bonds and passkeys.
+//!             _ => vec![verdict::DONE],
+//!         }
+//!     }
+//!
+//!     /// A step, run again with one answer more until it ends.
+//!     fn give(&mut self, input: Input) -> Result<(), Refusal> {
+//!         let (mut answers, mut list) = (Vec::new(), [0; size::CALL_LIST]);
+//!         loop {
+//!             let stepped = self.machine.step(input, &answers, &mut list)?;
+//!             if stepped.outcome == Outcome::Ended {
+//!                 return Ok(());
+//!             }
+//!             // The last call is new; those before it have their answers.
+//!             let calls = &list[..stepped.written];
+//!             let new = call_at(calls, count_calls(calls)? - 1)?;
+//!             answers.push(new.kind);
+//!             answers.extend(self.answer(new.kind, new.body));
+//!         }
+//!     }
+//! }
+//!
+//! /// Gives what one end has sent to the other.
+//! fn deliver(from: &mut End, to: &mut End) -> Result<(), Refusal> {
+//!     for (code, payload) in std::mem::take(&mut from.sent) {
+//!         to.give(Input::Command(code, &payload))?;
+//!     }
+//!     Ok(())
+//! }
+//!
+//! # fn main() -> Result<(), Refusal> {
+//! assert_eq!(legacy_pairing::version(), legacy_pairing::VERSION);
+//!
+//! let payload = write_features(Features {
+//!     io: io::NO_INPUT_NO_OUTPUT,
+//!     oob: NO,
+//!     auth_req: 0,
+//!     key_size: size::LARGEST_KEY as u8,
+//!     initiator_keys: 0,
+//!     responder_keys: 0,
+//! })?;
+//! assert_eq!(payload[features::AUTH_REQ_OFFSET] & auth::BONDING_MASK, 0, "no bond is asked for");
+//! let quay = [address::PUBLIC, 1, 2, 3, 4, 5, 6];
+//! let scale = [address::RANDOM, 7, 8, 9, 10, 11, 12];
+//! let mut terminal = End::new(Machine::new(Role::Terminal, &quay, &scale, &payload)?);
+//! let mut head = End::new(Machine::new(Role::Head, &scale, &quay, &payload)?);
+//!
+//! // The terminal's host sends the request itself. Response, confirm values and nonces follow.
+//! head.give(Input::Command(command::PAIRING_REQUEST, &payload))?;
+//! while !head.sent.is_empty() {
+//!     deliver(&mut head, &mut terminal)?;
+//!     deliver(&mut terminal, &mut head)?;
+//! }
+//! assert!(terminal.encrypts && head.encrypts);
+//!
+//! // The controllers encrypt the link, and say so.
+//! terminal.give(Input::LinkEncryptedResult(true))?;
+//! head.give(Input::LinkEncryptedResult(true))?;
+//! let paired = Status { result: Some(Ok(())), is_encrypted: true, level: level::ENCRYPTED };
+//! assert_eq!(terminal.machine.status(), Ok(paired));
+//! assert_eq!(head.machine.status(), Ok(paired));
+//! # Ok(())
+//! # }
+//! ```
 
 #![no_std]
+#![warn(missing_debug_implementations)]
 
+mod numbers;
 mod sys;
 
+pub use numbers::*;
+
 use core::fmt;
+use numbers::{input, outcome, result, role};
 
-/// The octets of a machine's record.
-pub const MACHINE: usize = 161;
-/// The shortest call list that a step takes.
-pub const CALL_LIST: usize = 164;
+/// The kind, then the six octets of the address.
+pub type Address = [u8; size::ADDRESS];
 
-/// Kind (0 public, others random), then the six octets of the address.
-pub type Address = [u8; 7];
+/// The version of the linked library. Where it is not [`VERSION`], the numbers and sizes of this crate may be
+/// those of another library.
+pub fn version() -> u32 {
+    // SAFETY: nothing is passed.
+    unsafe { sys::legacy_pairing_version() }
+}
 
-/// A refusal by its number: 1 to 6 are document 01's, those from 20 on are listed in include/legacy_pairing.h.
+/// A refusal by its number, one of [`refusal`].
 #[derive(Clone, Copy, Debug, PartialEq, Eq)]
 pub struct Refusal(pub u8);
 
 impl fmt::Display for Refusal {
     fn fmt(&self, f: &mut fmt::Formatter<'_>) -> fmt::Result {
         let what = match self.0 {
-            1 => "the call list has fewer than 164 octets",
-            2 => "no command has this code",
-            3 => "an answer has another kind, a cut body or a forbidden value",
-            4 => "features have fewer than six octets",
-            5 => "features have I/O above 4, OOB above 1 or a key size outside 7 to 16",
-            6 => "the call list has an unknown kind or a cut body",
-            20 => "the machine's record does not have 161 octets",
-            21 => "the machine's record has no phase",
-            22 => "the machine's record has no features",
-            23 => "the machine's record has no method",
-            24 => "the machine's record has no bond",
-            25 => "the machine's record has an octet that is not zero where its machine holds nothing",
-            26 => "no role has this number",
-            27 => "no input has this number",
-            28 => "an event's data have another length or a forbidden value",
-            29 => "an octet string has another length",
-            30 => "there is no call at this index",
+            refusal::LIST_TOO_SHORT => "the call list is shorter than the longest step's calls",
+            refusal::NO_COMMAND => "no command has this code",
+            refusal::BAD_ANSWER => "an answer has another kind, a cut body or a forbidden value",
+            refusal::FEATURES_CUT => "features have fewer than six octets",
+            refusal::BAD_FEATURES => "features have an I/O, an OOB or a key size that is none",
+            refusal::BAD_CALL_LIST => "the call list has an unknown kind or a cut body",
+            refusal::MACHINE_LENGTH => "the machine's record has another length",
+            refusal::MACHINE_PHASE => "the machine's record has no phase",
+            refusal::MACHINE_FEATURES => "the machine's record has no features",
+            refusal::MACHINE_METHOD => "the machine's record has no method",
+            refusal::MACHINE_BOND => "the machine's record has no bond",
+            refusal::NOT_CANONICAL => "the machine's record is not zero where its machine holds nothing",
+            refusal::NO_ROLE => "no role has this number",
+            refusal::NO_INPUT => "no input has this number",
+            refusal::BAD_EVENT => "an event's data have another length or a forbidden value",
+            refusal::WRONG_LENGTH => "an octet string has another length",
+            refusal::NO_CALL => "there is no call at this index",
             _ => "no refusal has this number",
         };
         write!(f, "refused by {}: {what}", self.0)
@@ -51,7 +165,7 @@ impl core::error::Error for Refusal {}
 
 /// Done, or a refusal.
 fn done(number: u8) -> Result<(), Refusal> {
-    if number == 0 {
+    if number == outcome::DONE {
         Ok(())
     } else {
         Err(Refusal(number))
@@ -67,21 +181,37 @@ pub enum Role {
 impl Role {
     fn number(self) -> u8 {
         match self {
-            Role::Terminal => 0,
-            Role::Head => 1,
+            Role::Terminal => role::TERMINAL,
+            Role::Head => role::HEAD,
         }
     }
 }
 
 /// An input of a step: a packet's command code with its payload, or an event.
-#[derive(Clone, Copy, Debug, PartialEq, Eq)]
+///
+/// It is `Copy`, since a step that wants is given the same input again. It has no `PartialEq`, since
+/// payloads, passkeys and out-of-band values are or make keys; its `Debug` shows none of them.
+#[derive(Clone, Copy)]
 pub enum Input<'a> {
     Command(u8, &'a [u8]),
     LinkEncryptedResult(bool),
     PassKeyConfirm,
     PassKeyCancel,
     PassKeyInput(u32),
-    OobDataReceived([u8; 16]),
+    OobDataReceived([u8; size::VALUE]),
+}
+
+impl fmt::Debug for Input<'_> {
+    fn fmt(&self, f: &mut fmt::Formatter<'_>) -> fmt::Result {
+        match self {
+            Input::Command(code, payload) => write!(f, "Command({code:#04x}, {} octets)", payload.len()),
+            Input::LinkEncryptedResult(on) => write!(f, "LinkEncryptedResult({on})"),
+            Input::PassKeyConfirm => f.write_str("PassKeyConfirm"),
+            Input::PassKeyCancel => f.write_str("PassKeyCancel"),
+            Input::PassKeyInput(_) => f.write_str("PassKeyInput(..)"),
+            Input::OobDataReceived(_) => f.write_str("OobDataReceived(..)"),
+        }
+    }
 }
 
 #[derive(Clone, Copy, Debug, PartialEq, Eq)]
@@ -100,18 +230,64 @@ pub struct Stepped {
     pub written: usize,
 }
 
-/// A machine of either role, as its record.
+/// Why a pairing has failed: its kind, one of [`failure`], and its detail.
 #[derive(Clone, Copy, Debug, PartialEq, Eq)]
+pub struct Failure {
+    pub kind: u8,
+    /// A [`reason`], or the host's verdict; 0 where the kind has none.
+    pub detail: u8,
+}
+
+impl fmt::Display for Failure {
+    fn fmt(&self, f: &mut fmt::Formatter<'_>) -> fmt::Result {
+        match self.kind {
+            failure::SECURITY => write!(f, "the pairing failed: reason {:#04x}", self.detail),
+            failure::INVALID_STATE => f.write_str("the pairing failed: an input that was not expected"),
+            failure::INVALID_VALUE => f.write_str("the pairing failed: a value of the peer's that is none"),
+            failure::OUT_OF_MEMORY => f.write_str("the pairing failed: the host is out of memory"),
+            failure::HOST => write!(f, "the pairing failed: the host's verdict {:#04x}", self.detail),
+            kind => write!(f, "the pairing failed: kind {kind}, detail {:#04x}", self.detail),
+        }
+    }
+}
+
+impl core::error::Error for Failure {}
+
+/// How a machine stands.
+#[derive(Clone, Copy, Debug, PartialEq, Eq)]
+pub struct Status {
+    /// None while the pairing is pending.
+    pub result: Option<Result<(), Failure>>,
+    /// Whether the machine is in a phase in which the link is encrypted.
+    pub is_encrypted: bool,
+    /// The level of the bond that the machine holds, by [`level`]. `level::NONE` where the link is not
+    /// encrypted, or no bond is held.
+    pub level: u8,
+}
+
+/// A machine of either role, as its record.
+///
+/// A record holds keys. So a machine is not `Copy`: no second one comes about unless a `clone` is written for
+/// it. It has no `PartialEq` either, since a comparison of keys that stops at the first difference tells by
+/// its time where that is; and its `Debug` shows no octet of the record. Nothing clears a machine that is
+/// dropped.
+#[derive(Clone)]
 pub struct Machine {
     role: Role,
-    record: [u8; MACHINE],
+    record: [u8; size::MACHINE],
+}
+
+impl fmt::Debug for Machine {
+    fn fmt(&self, f: &mut fmt::Formatter<'_>) -> fmt::Result {
+        f.debug_struct("Machine").field("role", &self.role).field("status", &self.status()).finish_non_exhaustive()
+    }
 }
 
 impl Machine {
-    /// A machine that begins a pairing: a terminal that has sent a request with these features, or a head that waits
-    /// for one.
+    /// A machine that begins a pairing: a terminal that has sent a request with these features, or a head
+    /// that waits for one.
     pub fn new(role: Role, local: &Address, peer: &Address, features: &[u8]) -> Result<Self, Refusal> {
-        let mut record = [0; MACHINE];
+        let mut record = [0; size::MACHINE];
         // SAFETY: each pointer and length is one slice's, and the record is lent to this call alone.
         done(unsafe {
             sys::legacy_pairing_new(
@@ -129,9 +305,9 @@ impl Machine {
         Ok(Self { role, record })
     }
 
-    /// The machine of a record that was kept. A malformed one is refused by the machine's next step. A record of an earlier
-    /// step cannot be told from the newest: keep the newest.
-    pub fn from_record(role: Role, record: [u8; MACHINE]) -> Self {
+    /// The machine of a record that was kept. A malformed one is refused by `step` and by `status`. A record
+    /// of an earlier step cannot be told from the newest: keep the newest.
+    pub fn from_record(role: Role, record: [u8; size::MACHINE]) -> Self {
         Self { role, record }
     }
 
@@ -139,25 +315,30 @@ impl Machine {
         self.role
     }
 
-    pub fn record(&self) -> &[u8; MACHINE] {
+    /// The record, to be kept; or to be looked at where [`machine`] says.
+    pub fn record(&self) -> &[u8; size::MACHINE] {
         &self.record
     }
 
-    /// One step on an input and the host's answers so far. A refused step leaves the machine and the list as they were.
+    /// One step on an input and the host's answers so far. A refused step leaves the machine and the list as
+    /// they were.
     pub fn step(&mut self, input: Input, answers: &[u8], list: &mut [u8]) -> Result<Stepped, Refusal> {
         match input {
             Input::Command(code, payload) => self.run(u16::from(code), payload, answers, list),
-            Input::LinkEncryptedResult(on) => self.run(0x100, &[u8::from(on)], answers, list),
-            Input::PassKeyConfirm => self.run(0x101, &[], answers, list),
-            Input::PassKeyCancel => self.run(0x102, &[], answers, list),
-            Input::PassKeyInput(passkey) => self.run(0x103, &passkey.to_le_bytes(), answers, list),
-            Input::OobDataReceived(random) => self.run(0x104, &random, answers, list),
+            Input::LinkEncryptedResult(on) => {
+                self.run(input::LINK_ENCRYPTED_RESULT, &[if on { YES } else { NO }], answers, list)
+            }
+            Input::PassKeyConfirm => self.run(input::PASS_KEY_CONFIRM, &[], answers, list),
+            Input::PassKeyCancel => self.run(input::PASS_KEY_CANCEL, &[], answers, list),
+            Input::PassKeyInput(passkey) => self.run(input::PASS_KEY_INPUT, &passkey.to_le_bytes(), answers, list),
+            Input::OobDataReceived(random) => self.run(input::OOB_DATA_RECEIVED, &random, answers, list),
         }
     }
 
     fn run(&mut self, input: u16, payload: &[u8], answers: &[u8], list: &mut [u8]) -> Result<Stepped, Refusal> {
         let (mut read, mut written) = (0, 0);
-        // SAFETY: each pointer and length is one slice's; the record, the list and the counts are lent to this call alone.
+        // SAFETY: each pointer and length is one slice's; the record, the list and the counts are lent to
+        // this call alone.
         let number = unsafe {
             sys::legacy_pairing_step(
                 self.role.number(),
@@ -175,11 +356,38 @@ impl Machine {
             )
         };
         let outcome = match number {
-            0 => Outcome::Ended,
-            255 => Outcome::Wants,
+            outcome::DONE => Outcome::Ended,
+            outcome::WANTS => Outcome::Wants,
             n => return Err(Refusal(n)),
         };
         Ok(Stepped { outcome, read, written })
+    }
+
+    /// How the machine stands. Refused where the machine is of a malformed record.
+    pub fn status(&self) -> Result<Status, Refusal> {
+        let (mut number, mut kind, mut detail, mut is_encrypted, mut level) = (0, 0, 0, 0, 0);
+        // SAFETY: the pointer and length are the record's, and the results are lent to this call alone.
+        done(unsafe {
+            sys::legacy_pairing_result(
+                self.role.number(),
+                self.record.as_ptr(),
+                self.record.len(),
+                &mut number,
+                &mut kind,
+                &mut detail,
+                &mut is_encrypted,
+                &mut level,
+            )
+        })?;
+        let result = match number {
+            result::SUCCESS => Some(Ok(())),
+            result::FAILED => Some(Err(Failure { kind, detail })),
+            pending => {
+                debug_assert_eq!(pending, result::PENDING, "there are three");
+                None
+            }
+        };
+        Ok(Status { result, is_encrypted: is_encrypted == YES, level })
     }
 }
 
@@ -196,15 +404,22 @@ pub struct Features {
 
 /// Reads features from the payload of a Pairing Request or Response.
 pub fn read_features(payload: &[u8]) -> Result<Features, Refusal> {
-    let mut f = [0; 6];
+    let mut f = [0; size::FEATURES];
     // SAFETY: each pointer and length is one slice's, and the fields are lent to this call alone.
     done(unsafe { sys::legacy_pairing_read_features(payload.as_ptr(), payload.len(), f.as_mut_ptr(), f.len()) })?;
-    Ok(Features { io: f[0], oob: f[1], auth_req: f[2], key_size: f[3], initiator_keys: f[4], responder_keys: f[5] })
+    Ok(Features {
+        io: f[features::IO_OFFSET],
+        oob: f[features::OOB_OFFSET],
+        auth_req: f[features::AUTH_REQ_OFFSET],
+        key_size: f[features::KEY_SIZE_OFFSET],
+        initiator_keys: f[features::INITIATOR_KEYS_OFFSET],
+        responder_keys: f[features::RESPONDER_KEYS_OFFSET],
+    })
 }
 
 /// Writes features as a payload.
-pub fn write_features(f: Features) -> Result<[u8; 6], Refusal> {
-    let mut payload = [0; 6];
+pub fn write_features(f: Features) -> Result<[u8; size::FEATURES], Refusal> {
+    let mut payload = [0; size::FEATURES];
     // SAFETY: the pointer and length are one slice's, lent to this call alone.
     done(unsafe {
         sys::legacy_pairing_write_features(
@@ -223,14 +438,14 @@ pub fn write_features(f: Features) -> Result<[u8; 6], Refusal> {
 
 /// The confirm value c1 of Part H 2.2.3; preq and pres have their command codes in front.
 pub fn c1(
-    k: &[u8; 16],
-    r: &[u8; 16],
-    preq: &[u8; 7],
-    pres: &[u8; 7],
+    k: &[u8; size::VALUE],
+    r: &[u8; size::VALUE],
+    preq: &[u8; size::PAIRING_PDU],
+    pres: &[u8; size::PAIRING_PDU],
     initiator: &Address,
     responder: &Address,
-) -> [u8; 16] {
-    let mut confirm = [0; 16];
+) -> [u8; size::VALUE] {
+    let mut confirm = [0; size::VALUE];
     // SAFETY: each pointer and length is one array's, and the confirm value is lent to this call alone.
     let number = unsafe {
         sys::legacy_pairing_c1(
@@ -250,13 +465,13 @@ pub fn c1(
             confirm.len(),
         )
     };
-    debug_assert_eq!(number, 0, "all lengths are right");
+    debug_assert_eq!(number, outcome::DONE, "all lengths are right");
     confirm
 }
 
 /// The short-term key s1 of Part H 2.2.4.
-pub fn s1(k: &[u8; 16], srand: &[u8; 16], mrand: &[u8; 16]) -> [u8; 16] {
-    let mut key = [0; 16];
+pub fn s1(k: &[u8; size::VALUE], srand: &[u8; size::VALUE], mrand: &[u8; size::VALUE]) -> [u8; size::VALUE] {
+    let mut key = [0; size::VALUE];
     // SAFETY: each pointer and length is one array's, and the key is lent to this call alone.
     let number = unsafe {
         sys::legacy_pairing_s1(
@@ -270,15 +485,23 @@ pub fn s1(k: &[u8; 16], srand: &[u8; 16], mrand: &[u8; 16]) -> [u8; 16] {
             key.len(),
         )
     };
-    debug_assert_eq!(number, 0, "all lengths are right");
+    debug_assert_eq!(number, outcome::DONE, "all lengths are right");
     key
 }
 
-/// A call of a list.
-#[derive(Clone, Copy, Debug, PartialEq, Eq)]
+/// A call of a list. Its body may be a key: so it has no `PartialEq`, as [`Machine`] has none, and its
+/// `Debug` shows no octet of the body.
+#[derive(Clone, Copy)]
 pub struct Call<'a> {
+    /// One of [`call`].
     pub kind: u8,
     pub body: &'a [u8],
+}
+
+impl fmt::Debug for Call<'_> {
+    fn fmt(&self, f: &mut fmt::Formatter<'_>) -> fmt::Result {
+        write!(f, "Call({:#04x}, {} octets)", self.kind, self.body.len())
+    }
 }
 
 /// The number of calls of a list.
@@ -293,8 +516,6 @@ pub fn count_calls(list: &[u8]) -> Result<usize, Refusal> {
 pub fn call_at(list: &[u8], index: usize) -> Result<Call<'_>, Refusal> {
     let (mut kind, mut body, mut size) = (0, 0, 0);
     // SAFETY: the pointer and length are one slice's, and the results are lent to this call alone.
-    done(unsafe {
-        sys::legacy_pairing_call_at(list.as_ptr(), list.len(), index, &mut kind, &mut body, &mut size)
-    })?;
+    done(unsafe { sys::legacy_pairing_call_at(list.as_ptr(), list.len(), index, &mut kind, &mut body, &mut size) })?;
     Ok(Call { kind, body: &list[body..body + size] })
 }

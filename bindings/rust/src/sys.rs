@@ -1,6 +1,8 @@
 //! The functions of include/legacy_pairing.h, in its order. A slice of Rattle is a pointer and a length.
 
 extern "C" {
+    pub fn legacy_pairing_version() -> u32;
+
     pub fn legacy_pairing_new(
         role: u8,
         local_address: *const u8,
@@ -26,6 +28,17 @@ extern "C" {
         list_len: usize,
         read: *mut usize,
         written: *mut usize,
+    ) -> u8;
+
+    pub fn legacy_pairing_result(
+        role: u8,
+        machine: *const u8,
+        machine_len: usize,
+        result: *mut u8,
+        error: *mut u8,
+        detail: *mut u8,
+        is_encrypted: *mut u8,
+        level: *mut u8,
     ) -> u8;
 
     pub fn legacy_pairing_read_features(

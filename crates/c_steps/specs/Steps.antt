@@ -3,13 +3,15 @@
 -- A machine is its record of 161 octets. What is new here is how numbers stand for roles, inputs and outcomes. A refusal
 -- leaves the record and the list as they were; the two counts become 0 by refusals 1 to 3 and are left by any other.
 -- Assumes nothing.
-use Rattle.std.specs.Prelude.{ℕ, ◌-◌, true, false, cond, List, [], ◌∷◌, ltb, eqb, length, get_or, Option, Some, None, Result, Ok, Err}
+use Rattle.std.specs.Prelude.{ℕ, Bool, ◌-◌, true, false, cond, List, [], ◌∷◌, ltb, eqb, length, get_or, Option, Some, None, Result, Ok, Err}
 use Rattle.octets.specs.Answer.{Answer, refused, accepted, and_then, answer_of}
 use Rattle.octets.specs.Octets.{from_octets, word_of}
 use Rattle.smp_types.specs.Types.{features_of}
 use Rattle.smp_types.specs.declared.types.PairingFeatures.{PairingFeatures}
+use Rattle.bond.specs.Bond.{failed_body, flag_code}
 use Rattle.bond.specs.declared.Address.{Address}
-use Rattle.machine.specs.Machine.{new_machine, lesc_switch}
+use Rattle.bond.specs.declared.Error.{Error}
+use Rattle.machine.specs.Machine.{new_machine, lesc_switch, result_of, is_encrypted, security_level_of}
 use Rattle.machine.specs.declared.Event.{Event}
 use Rattle.machine.specs.declared.Event.TheVariants.{LinkEncryptedResult, PassKeyConfirm, PassKeyCancel, PassKeyInput, OobDataReceived}
 use Rattle.machine.specs.declared.Input.{Input}
@@ -26,6 +28,7 @@ use Rattle.c_values.specs.Values.{done, Wrote, writes, address_in, error_number,
 use Rattle.c_steps.specs.declared.InputError.{InputError}
 use Rattle.c_steps.specs.declared.InputError.TheVariants as input-error
 use Rattle.c_steps.specs.declared.Progress.{Progress}
+use Rattle.c_steps.specs.declared.Status.{Status}
 use Rattle.c_steps.specs.declared.StepError.{StepError}
 use Rattle.c_steps.specs.declared.StepError.TheVariants as error
 
@@ -148,6 +151,58 @@ new_on role local peer features out =
     and_then (features_of features) (λ f.
     accepted (machine_octets (fresh_machine r own other f)))))))
 
+-- ---- how a machine stands
+
+-- the pairing goes on, has succeeded, or has failed
+abbrev pub pending : ℕ
+pending = 0
+
+abbrev pub succeeded : ℕ
+succeeded = 1
+
+abbrev pub failed : ℕ
+failed = 2
+
+abbrev pub result_number : Option (Result (Unit {0}) Error) → ℕ
+result_number None = pending
+result_number (Some (Ok x)) = succeeded
+result_number (Some (Err e)) = failed
+
+-- the failed body, two octets; zeros where the pairing has not failed
+abbrev pub error_octets : Option (Result (Unit {0}) Error) → List ℕ
+error_octets None = 0 ∷ 0 ∷ []
+error_octets (Some (Ok x)) = 0 ∷ 0 ∷ []
+error_octets (Some (Err e)) = failed_body e
+
+-- the number given back, and what stands behind the references
+pub record StatusLeft : Type 0 where
+  pub number : ℕ
+  pub result : ℕ
+  pub kind : ℕ
+  pub detail : ℕ
+  pub encrypted : ℕ
+  pub level : ℕ
+
+abbrev pub status_left : ℕ → ℕ → ℕ → ℕ → ℕ → ℕ → StatusLeft
+status_left number result kind detail encrypted level =
+    record { number = number; result = result; kind = kind; detail = detail; encrypted = encrypted; level = level }
+
+-- a result, whether the link is encrypted, and the security level
+abbrev pub status_written : Option (Result (Unit {0}) Error) → Bool → ℕ → StatusLeft
+status_written r e level =
+    status_left done (result_number r) (get_or (error_octets r) 0 0) (get_or (error_octets r) 1 0) (flag_code e) level
+
+-- a role or a record that is none is refused, and nothing is written
+abbrev pub status_unless_refused : ℕ → ℕ → ℕ → ℕ → ℕ → Answer Machine → StatusLeft
+status_unless_refused result kind detail encrypted level (refused n) = status_left n result kind detail encrypted level
+status_unless_refused result kind detail encrypted level (accepted m) =
+    status_written (result_of m.phase) (is_encrypted m.phase) (security_level_of m)
+
+unfoldable pub status_on : ℕ → List ℕ → ℕ → ℕ → ℕ → ℕ → ℕ → StatusLeft
+status_on role machine result kind detail encrypted level =
+    status_unless_refused result kind detail encrypted level
+    (and_then (role_of role) (λ r. machine_of r machine))
+
 -- ---- what the code gives
 
 abbrev pub role_answer : Option Role → Answer Role
@@ -185,3 +240,9 @@ abbrev pub step_told : Result Progress StepError → List ℕ → List ℕ → �
 step_told (Ok p) machine list read written = step_left (cond p.is_ended done wants) machine list p.read p.written
 step_told (Err e) machine list read written =
     step_left (step_error_number e) machine list (count_after e read) (count_after e written)
+
+-- what a result leaves behind the references
+abbrev pub status_told : Result Status StepError → ℕ → ℕ → ℕ → ℕ → ℕ → StatusLeft
+status_told (Ok s) result kind detail encrypted level = status_written s.result s.is_encrypted s.security_level
+status_told (Err e) result kind detail encrypted level =
+    status_left (step_error_number e) result kind detail encrypted level

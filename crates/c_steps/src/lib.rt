@@ -1,5 +1,5 @@
-// Steps and fresh machines on octet slices and numbers: a machine is its record of 161 octets. A refusal leaves the record
-// and the list as they were.
+// Steps, fresh machines and how a machine stands, on octet slices and numbers: a machine is its record of 161 octets. A
+// refusal leaves the record and the list as they were.
 // Roles and inputs are numbers here, and payload and answers apart, since C gives them so.
 #![tactic(auto)]
 
@@ -7,9 +7,9 @@ ghost use Rattle.std.specs.Prelude.{ℕ, ◌≡◌};
 ghost use Rattle.c_values.specs.Values.{wrote};
 ghost use Rattle.c_steps.specs.declared.StepError.TheVariants as error;
 ghost use Rattle.c_steps.specs.Steps.{role_of, with_data, link_result_of, pass_key_input_of, oob_data_received_of, input_of};
-ghost use Rattle.c_steps.specs.Steps.{step_on, fresh_machine, new_on, role_answer, input_error_number, input_answer, step_error_number, steps_number, step_told};
+ghost use Rattle.c_steps.specs.Steps.{step_on, fresh_machine, new_on, role_answer, input_error_number, input_answer, step_error_number, steps_number, step_told, status_on, status_told};
 
-use bond::{Address, read_flag};
+use bond::{Address, Error, read_flag};
 use c_values::{OctetsError, address_in, put};
 use machine::{Event, Input, Machine, PairingData, Role};
 use machine_record::{RecordError, machine_octets, read_machine};
@@ -174,7 +174,8 @@ pub fn step_machine(
     answers: &[u8],
     list: &mut [u8],
 ) -> Result<Progress, StepError>
-    ensures { (read written : ℕ) → step_told result machine.new list.new read written ≡ step_on role machine.old input payload.now answers.now list.old read written }
+    ensures { (read written : ℕ) → step_told result machine.new list.new read written
+        ≡ step_on role machine.old input payload.now answers.now list.old read written }
 {
     let role = role_of(role).ok_or(StepError::NoRole)?;
     let current = read_machine(role, machine)?;
@@ -225,7 +226,8 @@ pub fn new_machine(
     features: &[u8],
     machine: &mut [u8],
 ) -> Result<(), StepError>
-    ensures { wrote (steps_number result) machine.new ≡ new_on role local_address.now peer_address.now features.now machine.old }
+    ensures { wrote (steps_number result) machine.new
+        ≡ new_on role local_address.now peer_address.now features.now machine.old }
 {
     let role = role_of(role).ok_or(StepError::NoRole)?;
     let local = address_in(local_address)?;
@@ -234,4 +236,29 @@ pub fn new_machine(
     let fresh = fresh_machine(role, local, peer, features);
     put(&machine_octets(fresh), machine)?;
     Ok(())
+}
+
+// How a machine stands: None while the pairing goes on.
+#[derive(Clone, Copy, PartialEq, Eq)]
+pub struct Status {
+    pub result: Option<Result<(), Error>>,
+    pub is_encrypted: bool,
+    // the bond's level where the link is encrypted, else 0
+    pub security_level: u8,
+}
+
+// How the machine stands whose record is given, of role 0 (terminal) or 1 (head).
+// The clause is for whatever C's caller has behind its references.
+#[tactic(auto, unfolding(crate::specs::Steps::status_on))]
+pub fn machine_status(role: u8, machine: &[u8]) -> Result<Status, StepError>
+    ensures { (outcome kind detail encrypted level : ℕ) → status_told result outcome kind detail encrypted level
+        ≡ status_on role machine.now outcome kind detail encrypted level }
+{
+    let role = role_of(role).ok_or(StepError::NoRole)?;
+    let machine = read_machine(role, machine)?;
+    Ok(Status {
+        result: machine.result(),
+        is_encrypted: machine.phase.is_encrypted(),
+        security_level: machine.security_level(),
+    })
 }

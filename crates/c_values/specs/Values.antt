@@ -18,6 +18,11 @@ use Rattle.c_values.specs.declared.Call.{Call}
 use Rattle.c_values.specs.declared.OctetsError.{OctetsError}
 use Rattle.c_values.specs.declared.OctetsError.TheVariants as error
 
+-- ---- the version of the static library: an octet each for major, minor and patch
+
+abbrev pub version : ℕ
+version = 0x000200
+
 -- ---- how an operation came out. 4 to 6 are document 01's refusals
 
 abbrev pub done : ℕ

@@ -123,7 +123,8 @@ pub fn write_features(
     responder_keys: u8,
     payload: &mut [u8],
 ) -> Result<(), OctetsError>
-    ensures { wrote (octets_number result) payload.new ≡ write_features_on io oob auth_req key_size initiator_keys responder_keys payload.old }
+    ensures { wrote (octets_number result) payload.new
+        ≡ write_features_on io oob auth_req key_size initiator_keys responder_keys payload.old }
 {
     let octets = [io, oob, auth_req, key_size, initiator_keys, responder_keys];
     let features = PairingFeatures::try_from(octets)?;
@@ -141,7 +142,8 @@ pub fn confirm_value(
     responder: &[u8],
     confirm: &mut [u8],
 ) -> Result<(), OctetsError>
-    ensures { wrote (octets_number result) confirm.new ≡ c1_on k.now r.now preq.now pres.now initiator.now responder.now confirm.old }
+    ensures { wrote (octets_number result) confirm.new
+        ≡ c1_on k.now r.now preq.now pres.now initiator.now responder.now confirm.old }
 {
     let key = word_in(k)?;
     let nonce = word_in(r)?;
@@ -197,7 +199,8 @@ pub struct Call {
 // The call at an index of a list, counted from 0. The clause is for whatever stands behind the references of C's caller.
 #[tactic(auto, unfolding(crate::specs::Values::call_on))]
 pub fn call_at(list: &[u8], index: usize) -> Result<Call, OctetsError>
-    ensures { (kind body size : ℕ) → call_given kind body size (octets_answer result) ≡ call_on list.now index kind body size }
+    ensures { (kind body size : ℕ) → call_given kind body size (octets_answer result)
+        ≡ call_on list.now index kind body size }
 {
     let call = host_call_list::call_at(list, index)?.ok_or(OctetsError::NoCall)?;
     Ok(Call {

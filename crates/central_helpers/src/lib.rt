@@ -57,7 +57,10 @@ pub fn answer_confirm(
     machine: &mut Machine,
     peer_confirm: Confirm,
 ) -> Result<(), Halt>
-    ensures ran { ran_machine ops.new.trace machine.new result ≡ run ops.old.answers.now (answer_confirm machine.old.confirm_data machine.old.pairing_data peer_confirm) ops.old.trace }
+    ensures ran { ran_machine ops.new.trace machine.new result
+        ≡ run ops.old.answers.now
+        (answer_confirm machine.old.confirm_data machine.old.pairing_data peer_confirm)
+        ops.old.trace }
     ensures answers { ops.new.answers ≡ ops.old.answers }
     ensures kept { OnErr result (machine.new ≡ machine.old) }
 {
@@ -69,7 +72,8 @@ pub fn answer_confirm(
 // Sends all of the initiator's keys at once: those that the response names.
 #[tactic(auto, using(host_ops::proofs::Laws::run_bind), unfolding(protocol::specs::LegacyCentral::send_all_keys))]
 pub fn send_all_keys(ops: &mut Ops<'_>, machine: &mut Machine) -> Result<(), Halt>
-    ensures ran { ran_machine ops.new.trace machine.new result ≡ run ops.old.answers.now (send_all_keys machine.old.pairing_data) ops.old.trace }
+    ensures ran { ran_machine ops.new.trace machine.new result
+        ≡ run ops.old.answers.now (send_all_keys machine.old.pairing_data) ops.old.trace }
     ensures answers { ops.new.answers ≡ ops.old.answers }
     ensures kept { OnErr result (machine.new ≡ machine.old) }
 {
@@ -84,7 +88,10 @@ pub fn send_all_keys(ops: &mut Ops<'_>, machine: &mut Machine) -> Result<(), Hal
 // LTK, EDIV and Rand, where they were agreed; none of them is kept.
 #[tactic(auto, unfolding(protocol::specs::Handlers::send_encryption_key))]
 fn send_encryption_keys(ops: &mut Ops<'_>, named: KeyDistributionFlags) -> Result<(), Halt>
-    ensures ran { (d : PairingData) → ran_data ops.new.trace d result ≡ run ops.old.answers.now (send_encryption_key d (λ ltk ediv rand. d) (names_encryption_key named)) ops.old.trace }
+    ensures ran { (d : PairingData) → ran_data ops.new.trace d result
+        ≡ run ops.old.answers.now
+        (send_encryption_key d (λ ltk ediv rand. d) (names_encryption_key named))
+        ops.old.trace }
     ensures answers { ops.new.answers ≡ ops.old.answers }
 {
     if !named.encryption_key() {
@@ -105,7 +112,8 @@ pub fn begin_method(
     pres: [u8; 7],
     method: PairingMethod,
 ) -> Result<(), Halt>
-    ensures ran { ran_machine ops.new.trace machine.new result ≡ run ops.old.answers.now (begin_method preq pres machine.old.pairing_data method) ops.old.trace }
+    ensures ran { ran_machine ops.new.trace machine.new result
+        ≡ run ops.old.answers.now (begin_method preq pres machine.old.pairing_data method) ops.old.trace }
     ensures answers { ops.new.answers ≡ ops.old.answers }
     ensures kept { OnErr result (machine.new ≡ machine.old) }
 {
@@ -135,7 +143,8 @@ fn display_pass_key(
     preq: [u8; 7],
     pres: [u8; 7],
 ) -> Result<(), Halt>
-    ensures ran { ran_machine ops.new.trace machine.new result ≡ run ops.old.answers.now (display_pass_key preq pres machine.old.pairing_data) ops.old.trace }
+    ensures ran { ran_machine ops.new.trace machine.new result
+        ≡ run ops.old.answers.now (display_pass_key preq pres machine.old.pairing_data) ops.old.trace }
     ensures answers { ops.new.answers ≡ ops.old.answers }
     ensures kept { OnErr result (machine.new ≡ machine.old) }
 {
@@ -154,7 +163,8 @@ pub fn begin_confirm(
     pres: [u8; 7],
     tk: u128,
 ) -> Result<(), Halt>
-    ensures ran { ran_machine ops.new.trace machine.new result ≡ run ops.old.answers.now (begin_confirm preq pres machine.old.pairing_data tk) ops.old.trace }
+    ensures ran { ran_machine ops.new.trace machine.new result
+        ≡ run ops.old.answers.now (begin_confirm preq pres machine.old.pairing_data tk) ops.old.trace }
     ensures answers { ops.new.answers ≡ ops.old.answers }
     ensures kept { OnErr result (machine.new ≡ machine.old) }
 {
@@ -169,7 +179,10 @@ pub fn begin_confirm(
 // Mconfirm = c1(TK, Mrand, preq, pres, iat, ia, rat, ra) of a fresh Mrand. Gives Mrand.
 #[tactic(auto, unfolding(protocol::specs::LegacyCentral::send_mconfirm))]
 pub fn send_mconfirm(ops: &mut Ops<'_>, machine: &Machine) -> Result<Nonce, Halt>
-    ensures ran { ran_nonce ops.new.trace machine.now.pairing_data machine.now.confirm_data result ≡ run ops.old.answers.now (send_mconfirm machine.now.confirm_data machine.now.pairing_data) ops.old.trace }
+    ensures ran { ran_nonce ops.new.trace machine.now.pairing_data machine.now.confirm_data result
+        ≡ run ops.old.answers.now
+        (send_mconfirm machine.now.confirm_data machine.now.pairing_data)
+        ops.old.trace }
     ensures answers { ops.new.answers ≡ ops.old.answers }
 {
     let local_nonce = ops.draw_nonce()?;
@@ -180,7 +193,8 @@ pub fn send_mconfirm(ops: &mut Ops<'_>, machine: &Machine) -> Result<Nonce, Halt
 
 #[tactic(auto, unfolding(protocol::specs::LegacyCentral::send_mrand))]
 fn send_mrand(ops: &mut Ops<'_>, machine: &Machine) -> Result<(), Halt>
-    ensures ran { ran_try ops.new.trace machine.now.pairing_data result ≡ run ops.old.answers.now (send_mrand machine.now.confirm_data machine.now.pairing_data) ops.old.trace }
+    ensures ran { ran_try ops.new.trace machine.now.pairing_data result
+        ≡ run ops.old.answers.now (send_mrand machine.now.confirm_data machine.now.pairing_data) ops.old.trace }
     ensures answers { ops.new.answers ≡ ops.old.answers }
 {
     ops.try_send_packet(make_pairing_random(machine.confirm_data.local_nonce))
@@ -194,7 +208,10 @@ pub fn handle_pairing_random(
     peer_confirm: Confirm,
     payload: &[u8],
 ) -> Result<(), Halt>
-    ensures ran { ran_machine ops.new.trace machine.new result ≡ run ops.old.answers.now (handle_pairing_random machine.old.confirm_data machine.old.pairing_data peer_confirm payload.now) ops.old.trace }
+    ensures ran { ran_machine ops.new.trace machine.new result
+        ≡ run ops.old.answers.now
+        (handle_pairing_random machine.old.confirm_data machine.old.pairing_data peer_confirm payload.now)
+        ops.old.trace }
     ensures answers { ops.new.answers ≡ ops.old.answers }
     ensures kept { OnErr result (machine.new ≡ machine.old) }
 {

@@ -29,7 +29,9 @@ pub fn step_in_place(
     answers: &[u8],
     list: &mut [u8],
 ) -> StepResult
-    ensures { (stepped result machine.new list.new ≡ step role machine.old input payload.now answers.now list.old) × Keeps (step_outcome result.outcome) machine.old machine.new }
+    ensures { (stepped result machine.new list.new
+        ≡ step role machine.old input payload.now answers.now list.old)
+        × Keeps (step_outcome result.outcome) machine.old machine.new }
 {
     let stepped = step(role, *machine, input, payload, answers, list);
     *machine = stepped.machine;

@@ -63,7 +63,8 @@ impl<'a> Received<'a> {
 // peer's error, all others are InvalidState.
 #[tactic(auto, unfolding(protocol::specs::Handlers::other_input))]
 pub fn other_input(machine: &Machine, received: Received<'_>) -> Result<(), Error>
-    ensures { ret (tried machine.now result) ≡ other_input machine.now received.entry.payload.now received.entry.input }
+    ensures { ret (tried machine.now result)
+        ≡ other_input machine.now received.entry.payload.now received.entry.input }
 {
     match received.input {
         Input::Command(code) => match Command::try_from(code) {

@@ -24,7 +24,8 @@ pub struct EncryptionKeys {
 
 // LTK, then EDIV, then Rand.
 pub fn draw_keys(ops: &mut Ops<'_>) -> Result<EncryptionKeys, Stop>
-    ensures ran { ran_answer ops.new.trace result ≡ run ops.old.answers.now draw_keys ops.old.trace }
+    ensures ran { ran_answer ops.new.trace result
+        ≡ run ops.old.answers.now draw_keys ops.old.trace }
     ensures answers { ops.new.answers ≡ ops.old.answers }
 {
     let ltk = ops.draw_ltk()?;
@@ -36,7 +37,8 @@ pub fn draw_keys(ops: &mut Ops<'_>) -> Result<EncryptionKeys, Stop>
 // IRK, then the identity address and not the one used in pairing, where they were agreed.
 #[tactic(auto, unfolding(protocol::specs::Handlers::send_identity_key))]
 pub fn send_identity_keys(ops: &mut Ops<'_>, named: KeyDistributionFlags) -> Result<(), Halt>
-    ensures ran { (d : PairingData) → ran_try ops.new.trace d result ≡ run ops.old.answers.now (send_identity_key d (names_identity_key named)) ops.old.trace }
+    ensures ran { (d : PairingData) → ran_try ops.new.trace d result
+        ≡ run ops.old.answers.now (send_identity_key d (names_identity_key named)) ops.old.trace }
     ensures answers { ops.new.answers ≡ ops.old.answers }
 {
     if !named.identity_key() {

@@ -47,7 +47,8 @@ fn attempt(sent: Result<(), Halt>) -> Result<(), Stop>
 // bond, then PairingComplete. Failures to send do not matter.
 #[tactic(auto, unfolding(protocol::specs::Handlers::enter))]
 pub fn enter(ops: &mut Ops<'_>, machine: &Machine) -> Result<(), Stop>
-    ensures ran { ran_entered ops.new.trace machine.now result ≡ run ops.old.answers.now (enter machine.now) ops.old.trace }
+    ensures ran { ran_entered ops.new.trace machine.now result
+        ≡ run ops.old.answers.now (enter machine.now) ops.old.trace }
     ensures answers { ops.new.answers ≡ ops.old.answers }
 {
     match machine.phase {
@@ -79,7 +80,10 @@ pub fn settle(
     before: Machine,
     turned: Result<(), Halt>,
 ) -> Result<(), Stop>
-    ensures ran { ran_entered ops.new.trace machine.new result ≡ and_then (ran_machine ops.old.trace machine.old turned) (λ x u. run ops.old.answers.now (entered x) u) }
+    ensures ran { ran_entered ops.new.trace machine.new result
+        ≡ and_then
+        (ran_machine ops.old.trace machine.old turned)
+        (λ x u. run ops.old.answers.now (entered x) u) }
     ensures answers { ops.new.answers ≡ ops.old.answers }
     ensures kept { OnErr result (machine.new ≡ before) }
 {
@@ -101,7 +105,8 @@ pub fn settle(
 // A confirm value that comes while the passkey is typed.
 #[tactic(auto, unfolding(protocol::specs::Handlers::store_confirm_bytes))]
 pub fn store_confirm_bytes(machine: &mut Machine, payload: &[u8]) -> Result<(), Error>
-    ensures ran { ret (tried machine.new result) ≡ store_confirm_bytes machine.old.confirm_data machine.old.pairing_data payload.now }
+    ensures ran { ret (tried machine.new result)
+        ≡ store_confirm_bytes machine.old.confirm_data machine.old.pairing_data payload.now }
     ensures kept { OnErr result (machine.new ≡ machine.old) }
 {
     let word = read_payload_word(payload).ok_or(Error::InvalidValue)?;
@@ -118,7 +123,8 @@ pub fn request_oob_data(
     preq: [u8; 7],
     pres: [u8; 7],
 ) -> Result<(), Halt>
-    ensures ran { ran_machine ops.new.trace machine.new result ≡ run ops.old.answers.now (request_oob_data preq pres machine.old.pairing_data) ops.old.trace }
+    ensures ran { ran_machine ops.new.trace machine.new result
+        ≡ run ops.old.answers.now (request_oob_data preq pres machine.old.pairing_data) ops.old.trace }
     ensures answers { ops.new.answers ≡ ops.old.answers }
     ensures kept { OnErr result (machine.new ≡ machine.old) }
 {
@@ -135,7 +141,8 @@ pub fn request_pass_key(
     preq: [u8; 7],
     pres: [u8; 7],
 ) -> Result<(), Halt>
-    ensures ran { ran_machine ops.new.trace machine.new result ≡ run ops.old.answers.now (request_pass_key preq pres machine.old.pairing_data) ops.old.trace }
+    ensures ran { ran_machine ops.new.trace machine.new result
+        ≡ run ops.old.answers.now (request_pass_key preq pres machine.old.pairing_data) ops.old.trace }
     ensures answers { ops.new.answers ≡ ops.old.answers }
     ensures kept { OnErr result (machine.new ≡ machine.old) }
 {
@@ -154,7 +161,8 @@ pub fn enable_encryption(
     machine: &mut Machine,
     stk: LongTermKey,
 ) -> Result<(), Halt>
-    ensures ran { ran_machine ops.new.trace machine.new result ≡ run ops.old.answers.now (enable_encryption machine.old.pairing_data stk) ops.old.trace }
+    ensures ran { ran_machine ops.new.trace machine.new result
+        ≡ run ops.old.answers.now (enable_encryption machine.old.pairing_data stk) ops.old.trace }
     ensures answers { ops.new.answers ≡ ops.old.answers }
     ensures kept { OnErr result (machine.new ≡ machine.old) }
 {
@@ -168,7 +176,8 @@ pub fn enable_encryption(
 
 #[tactic(auto, unfolding(protocol::specs::Handlers::handle_encryption_information))]
 pub fn handle_encryption_information(machine: &mut Machine, payload: &[u8]) -> Result<(), Error>
-    ensures ran { ret (tried machine.new result) ≡ handle_encryption_information machine.old.pairing_data payload.now }
+    ensures ran { ret (tried machine.new result)
+        ≡ handle_encryption_information machine.old.pairing_data payload.now }
     ensures kept { OnErr result (machine.new ≡ machine.old) }
 {
     let word = read_payload_word(payload).ok_or(Error::InvalidValue)?;
@@ -181,7 +190,8 @@ pub fn handle_encryption_information(machine: &mut Machine, payload: &[u8]) -> R
 
 #[tactic(auto, unfolding(protocol::specs::Handlers::handle_identity_information))]
 fn handle_identity_information(machine: &mut Machine, payload: &[u8]) -> Result<(), Error>
-    ensures ran { ret (tried machine.new result) ≡ handle_identity_information machine.old.pairing_data payload.now }
+    ensures ran { ret (tried machine.new result)
+        ≡ handle_identity_information machine.old.pairing_data payload.now }
     ensures kept { OnErr result (machine.new ≡ machine.old) }
 {
     let word = read_payload_word(payload).ok_or(Error::InvalidValue)?;
@@ -192,7 +202,10 @@ fn handle_identity_information(machine: &mut Machine, payload: &[u8]) -> Result<
 
 // The state that awaits the peer's identity key.
 pub fn waiting_identity(machine: &mut Machine, received: Received<'_>) -> Result<(), Error>
-    ensures ran { ret (tried machine.new result) ≡ on_command command.IdentityInformation received.entry.input (handle_identity_information machine.old.pairing_data received.entry.payload.now) (other_input machine.old received.entry.payload.now received.entry.input) }
+    ensures ran { ret (tried machine.new result)
+        ≡ on_command command.IdentityInformation received.entry.input
+        (handle_identity_information machine.old.pairing_data received.entry.payload.now)
+        (other_input machine.old received.entry.payload.now received.entry.input) }
     ensures kept { OnErr result (machine.new ≡ machine.old) }
 {
     if received.is_command(Command::IdentityInformation) {

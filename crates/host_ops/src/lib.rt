@@ -62,7 +62,8 @@ impl<'a> Ops<'a> {
 
     // One more call, and its answer, behind which the trace then has read.
     fn ask<T: Answer<N>, const N: usize>(&mut self, call: Call) -> Result<T, Stop>
-        ensures ran { ran_answer self.new.trace result ≡ asked T.said N call self.old.answers.now self.old.trace }
+        ensures ran { ran_answer self.new.trace result
+            ≡ asked T.said N call self.old.answers.now self.old.trace }
         ensures answers { self.new.answers ≡ self.old.answers }
     {
         let at = self.trace.read;
@@ -75,7 +76,8 @@ impl<'a> Ops<'a> {
     // A call that is answered by a verdict alone.
     #[tactic(auto, unfolding(host_answers::specs::Answers::verdict_at))]
     fn tell(&mut self, call: Call) -> Result<(), Halt>
-        ensures ran { ran_delivery self.new.trace result ≡ told call self.old.answers.now self.old.trace }
+        ensures ran { ran_delivery self.new.trace result
+            ≡ told call self.old.answers.now self.old.trace }
         ensures answers { self.new.answers ≡ self.old.answers }
     {
         let done: Result<(), Error> = self.ask(call)?;
@@ -84,7 +86,8 @@ impl<'a> Ops<'a> {
 
     #[tactic(auto, unfolding(crate::specs::Run::answer_to))]
     pub fn try_send_packet(&mut self, packet: Packet) -> Result<(), Halt>
-        ensures ran { ran_delivery self.new.trace result ≡ answer_to (call.SendPacket packet) self.old.answers.now self.old.trace }
+        ensures ran { ran_delivery self.new.trace result
+            ≡ answer_to (call.SendPacket packet) self.old.answers.now self.old.trace }
         ensures answers { self.new.answers ≡ self.old.answers }
     {
         self.tell(Call::SendPacket(packet))
@@ -93,7 +96,8 @@ impl<'a> Ops<'a> {
     // Whether there is a bond.
     #[tactic(auto, unfolding(crate::specs::Run::answer_to, host_answers::specs::Answers::flag_at))]
     pub fn find_bond(&mut self) -> Result<bool, Stop>
-        ensures ran { ran_answer self.new.trace result ≡ answer_to (call.Ask question.FindBond) self.old.answers.now self.old.trace }
+        ensures ran { ran_answer self.new.trace result
+            ≡ answer_to (call.Ask question.FindBond) self.old.answers.now self.old.trace }
         ensures answers { self.new.answers ≡ self.old.answers }
     {
         self.ask(Call::Ask(Question::FindBond))
@@ -101,7 +105,8 @@ impl<'a> Ops<'a> {
 
     #[tactic(auto, unfolding(crate::specs::Run::answer_to, host_answers::specs::Answers::bonded_at))]
     pub fn try_enable_bonded_encryption(&mut self) -> Result<Option<BondInformation>, Halt>
-        ensures ran { ran_result self.new.trace result ≡ answer_to call.EnableBondedEncryption self.old.answers.now self.old.trace }
+        ensures ran { ran_result self.new.trace result
+            ≡ answer_to call.EnableBondedEncryption self.old.answers.now self.old.trace }
         ensures answers { self.new.answers ≡ self.old.answers }
     {
         let bond: Result<Option<BondInformation>, Error> = self.ask(Call::EnableBondedEncryption)?;
@@ -117,7 +122,10 @@ impl<'a> Ops<'a> {
         security_level: u8,
         encryption_key_len: u8,
     ) -> Result<BondInformation, Halt>
-        ensures ran { ran_result self.new.trace result ≡ answer_to (call.EnableEncryption ltk security_level encryption_key_len) self.old.answers.now self.old.trace }
+        ensures ran { ran_result self.new.trace result
+            ≡ answer_to
+            (call.EnableEncryption ltk security_level encryption_key_len)
+            self.old.answers.now self.old.trace }
         ensures answers { self.new.answers ≡ self.old.answers }
     {
         let call = Call::EnableEncryption {
@@ -131,7 +139,8 @@ impl<'a> Ops<'a> {
 
     #[tactic(auto, unfolding(crate::specs::Run::answer_to))]
     pub fn try_update_bond_information(&mut self, bond: BondInformation) -> Result<(), Halt>
-        ensures ran { ran_delivery self.new.trace result ≡ answer_to (call.UpdateBondInformation bond) self.old.answers.now self.old.trace }
+        ensures ran { ran_delivery self.new.trace result
+            ≡ answer_to (call.UpdateBondInformation bond) self.old.answers.now self.old.trace }
         ensures answers { self.new.answers ≡ self.old.answers }
     {
         self.tell(Call::UpdateBondInformation(bond))
@@ -139,7 +148,8 @@ impl<'a> Ops<'a> {
 
     #[tactic(auto, unfolding(crate::specs::Run::answer_to))]
     pub fn try_send_connection_event(&mut self, event: ConnectionEvent) -> Result<(), Halt>
-        ensures ran { ran_delivery self.new.trace result ≡ answer_to (call.SendConnectionEvent event) self.old.answers.now self.old.trace }
+        ensures ran { ran_delivery self.new.trace result
+            ≡ answer_to (call.SendConnectionEvent event) self.old.answers.now self.old.trace }
         ensures answers { self.new.answers ≡ self.old.answers }
     {
         self.tell(Call::SendConnectionEvent(event))
@@ -148,7 +158,8 @@ impl<'a> Ops<'a> {
     // Whether the host wishes to bond.
     #[tactic(auto, unfolding(crate::specs::Run::answer_to, host_answers::specs::Answers::flag_at))]
     pub fn bonding_flag(&mut self) -> Result<bool, Stop>
-        ensures ran { ran_answer self.new.trace result ≡ answer_to (call.Ask question.BondingFlag) self.old.answers.now self.old.trace }
+        ensures ran { ran_answer self.new.trace result
+            ≡ answer_to (call.Ask question.BondingFlag) self.old.answers.now self.old.trace }
         ensures answers { self.new.answers ≡ self.old.answers }
     {
         self.ask(Call::Ask(Question::BondingFlag))
@@ -157,7 +168,8 @@ impl<'a> Ops<'a> {
     // Whether OOB data is available for this connection.
     #[tactic(auto, unfolding(crate::specs::Run::answer_to, host_answers::specs::Answers::flag_at))]
     pub fn oob_available(&mut self) -> Result<bool, Stop>
-        ensures ran { ran_answer self.new.trace result ≡ answer_to (call.Ask question.OobAvailable) self.old.answers.now self.old.trace }
+        ensures ran { ran_answer self.new.trace result
+            ≡ answer_to (call.Ask question.OobAvailable) self.old.answers.now self.old.trace }
         ensures answers { self.new.answers ≡ self.old.answers }
     {
         self.ask(Call::Ask(Question::OobAvailable))
@@ -166,7 +178,8 @@ impl<'a> Ops<'a> {
     // The local Identity Resolving Key; all zeros where there is none.
     #[tactic(auto, unfolding(crate::specs::Run::answer_to, host_answers::specs::Answers::irk_at))]
     pub fn local_irk(&mut self) -> Result<IdentityResolvingKey, Stop>
-        ensures ran { ran_answer self.new.trace result ≡ answer_to (call.Ask question.LocalIrk) self.old.answers.now self.old.trace }
+        ensures ran { ran_answer self.new.trace result
+            ≡ answer_to (call.Ask question.LocalIrk) self.old.answers.now self.old.trace }
         ensures answers { self.new.answers ≡ self.old.answers }
     {
         self.ask(Call::Ask(Question::LocalIrk))
@@ -175,7 +188,8 @@ impl<'a> Ops<'a> {
     // The local identity address, which may be another than the one used in pairing.
     #[tactic(auto, unfolding(crate::specs::Run::answer_to, host_answers::specs::Answers::address_at))]
     pub fn local_identity_address(&mut self) -> Result<Address, Halt>
-        ensures ran { ran_result self.new.trace result ≡ answer_to (call.Ask question.LocalIdentityAddress) self.old.answers.now self.old.trace }
+        ensures ran { ran_result self.new.trace result
+            ≡ answer_to (call.Ask question.LocalIdentityAddress) self.old.answers.now self.old.trace }
         ensures answers { self.new.answers ≡ self.old.answers }
     {
         let call = Call::Ask(Question::LocalIdentityAddress);
@@ -186,7 +200,8 @@ impl<'a> Ops<'a> {
     // Mrand or Srand; never zero.
     #[tactic(auto, unfolding(crate::specs::Run::answer_to, host_answers::specs::Answers::nonce_at))]
     pub fn draw_nonce(&mut self) -> Result<Nonce, Stop>
-        ensures ran { ran_answer self.new.trace result ≡ answer_to (call.Draw draw.Nonce) self.old.answers.now self.old.trace }
+        ensures ran { ran_answer self.new.trace result
+            ≡ answer_to (call.Draw draw.Nonce) self.old.answers.now self.old.trace }
         ensures answers { self.new.answers ≡ self.old.answers }
     {
         self.ask(Call::Draw(Draw::Nonce))
@@ -194,7 +209,8 @@ impl<'a> Ops<'a> {
 
     #[tactic(auto, unfolding(crate::specs::Run::answer_to, host_answers::specs::Answers::pass_key_at))]
     pub fn draw_passkey(&mut self) -> Result<PassKey, Stop>
-        ensures ran { ran_answer self.new.trace result ≡ answer_to (call.Draw draw.PassKey) self.old.answers.now self.old.trace }
+        ensures ran { ran_answer self.new.trace result
+            ≡ answer_to (call.Draw draw.PassKey) self.old.answers.now self.old.trace }
         ensures answers { self.new.answers ≡ self.old.answers }
     {
         self.ask(Call::Draw(Draw::PassKey))
@@ -202,7 +218,8 @@ impl<'a> Ops<'a> {
 
     #[tactic(auto, unfolding(crate::specs::Run::answer_to, host_answers::specs::Answers::ltk_at))]
     pub fn draw_ltk(&mut self) -> Result<LongTermKey, Stop>
-        ensures ran { ran_answer self.new.trace result ≡ answer_to (call.Draw draw.LongTermKey) self.old.answers.now self.old.trace }
+        ensures ran { ran_answer self.new.trace result
+            ≡ answer_to (call.Draw draw.LongTermKey) self.old.answers.now self.old.trace }
         ensures answers { self.new.answers ≡ self.old.answers }
     {
         self.ask(Call::Draw(Draw::LongTermKey))
@@ -210,7 +227,8 @@ impl<'a> Ops<'a> {
 
     #[tactic(auto, unfolding(crate::specs::Run::answer_to, host_answers::specs::Answers::ediv_at))]
     pub fn draw_ediv(&mut self) -> Result<u16, Stop>
-        ensures ran { ran_answer self.new.trace result ≡ answer_to (call.Draw draw.Ediv) self.old.answers.now self.old.trace }
+        ensures ran { ran_answer self.new.trace result
+            ≡ answer_to (call.Draw draw.Ediv) self.old.answers.now self.old.trace }
         ensures answers { self.new.answers ≡ self.old.answers }
     {
         self.ask(Call::Draw(Draw::Ediv))
@@ -218,7 +236,8 @@ impl<'a> Ops<'a> {
 
     #[tactic(auto, unfolding(crate::specs::Run::answer_to, host_answers::specs::Answers::rand_at))]
     pub fn draw_rand(&mut self) -> Result<u64, Stop>
-        ensures ran { ran_answer self.new.trace result ≡ answer_to (call.Draw draw.Rand) self.old.answers.now self.old.trace }
+        ensures ran { ran_answer self.new.trace result
+            ≡ answer_to (call.Draw draw.Rand) self.old.answers.now self.old.trace }
         ensures answers { self.new.answers ≡ self.old.answers }
     {
         self.ask(Call::Draw(Draw::Rand))

@@ -40,7 +40,10 @@ pub fn handle_input(
     machine: &mut Machine,
     received: Received<'_>,
 ) -> Result<(), Stop>
-    ensures ran { ran_entered ops.new.trace machine.new result ≡ run ops.old.answers.now (handle_input machine.old received.entry.input received.entry.payload.now) ops.old.trace }
+    ensures ran { ran_entered ops.new.trace machine.new result
+        ≡ run ops.old.answers.now
+        (handle_input machine.old received.entry.input received.entry.payload.now)
+        ops.old.trace }
     ensures answers { ops.new.answers ≡ ops.old.answers }
     ensures kept { OnErr result (machine.new ≡ machine.old) }
 {
@@ -52,7 +55,10 @@ pub fn handle_input(
 // A row for each state.
 #[tactic(auto, unfolding(protocol::specs::LegacyCentral::transition))]
 fn transition(ops: &mut Ops<'_>, machine: &mut Machine, received: Received<'_>) -> Result<(), Halt>
-    ensures ran { ran_machine ops.new.trace machine.new result ≡ run ops.old.answers.now (transition machine.old received.entry.input received.entry.payload.now) ops.old.trace }
+    ensures ran { ran_machine ops.new.trace machine.new result
+        ≡ run ops.old.answers.now
+        (transition machine.old received.entry.input received.entry.payload.now)
+        ops.old.trace }
     ensures answers { ops.new.answers ≡ ops.old.answers }
 {
     match machine.phase {
@@ -83,7 +89,10 @@ fn waiting_response(
     machine: &mut Machine,
     received: Received<'_>,
 ) -> Result<(), Halt>
-    ensures ran { ran_machine ops.new.trace machine.new result ≡ run ops.old.answers.now (transition_from machine.old received.entry.payload.now received.entry.input phase.WaitingPairingResponse) ops.old.trace }
+    ensures ran { ran_machine ops.new.trace machine.new result
+        ≡ run ops.old.answers.now
+        (transition_from machine.old received.entry.payload.now received.entry.input phase.WaitingPairingResponse)
+        ops.old.trace }
     ensures answers { ops.new.answers ≡ ops.old.answers }
 {
     if received.is_command(Command::PairingResponse) {
@@ -98,7 +107,11 @@ fn waiting_pass_key(
     confirm_bytes: Option<Confirm>,
     received: Received<'_>,
 ) -> Result<(), Halt>
-    ensures ran { ran_machine ops.new.trace machine.new result ≡ run ops.old.answers.now (transition_from machine.old received.entry.payload.now received.entry.input (phase.WaitingPassKeyInput confirm_bytes)) ops.old.trace }
+    ensures ran { ran_machine ops.new.trace machine.new result
+        ≡ run ops.old.answers.now
+        (transition_from machine.old received.entry.payload.now received.entry.input
+        (phase.WaitingPassKeyInput confirm_bytes))
+        ops.old.trace }
     ensures answers { ops.new.answers ≡ ops.old.answers }
 {
     if received.is_command(Command::PairingConfirm) {
@@ -119,7 +132,10 @@ fn waiting_oob_data(
     machine: &mut Machine,
     received: Received<'_>,
 ) -> Result<(), Halt>
-    ensures ran { ran_machine ops.new.trace machine.new result ≡ run ops.old.answers.now (transition_from machine.old received.entry.payload.now received.entry.input phase.WaitingOobData) ops.old.trace }
+    ensures ran { ran_machine ops.new.trace machine.new result
+        ≡ run ops.old.answers.now
+        (transition_from machine.old received.entry.payload.now received.entry.input phase.WaitingOobData)
+        ops.old.trace }
     ensures answers { ops.new.answers ≡ ops.old.answers }
 {
     if let Some(random) = received.oob_data_received() {
@@ -135,7 +151,10 @@ fn waiting_confirm(
     machine: &mut Machine,
     received: Received<'_>,
 ) -> Result<(), Halt>
-    ensures ran { ran_machine ops.new.trace machine.new result ≡ run ops.old.answers.now (transition_from machine.old received.entry.payload.now received.entry.input phase.WaitingPairingConfirm) ops.old.trace }
+    ensures ran { ran_machine ops.new.trace machine.new result
+        ≡ run ops.old.answers.now
+        (transition_from machine.old received.entry.payload.now received.entry.input phase.WaitingPairingConfirm)
+        ops.old.trace }
     ensures answers { ops.new.answers ≡ ops.old.answers }
 {
     if received.is_command(Command::PairingConfirm) {
@@ -150,7 +169,11 @@ fn waiting_random(
     peer_confirm: Confirm,
     received: Received<'_>,
 ) -> Result<(), Halt>
-    ensures ran { ran_machine ops.new.trace machine.new result ≡ run ops.old.answers.now (transition_from machine.old received.entry.payload.now received.entry.input (phase.WaitingPairingRandom peer_confirm)) ops.old.trace }
+    ensures ran { ran_machine ops.new.trace machine.new result
+        ≡ run ops.old.answers.now
+        (transition_from machine.old received.entry.payload.now received.entry.input
+        (phase.WaitingPairingRandom peer_confirm))
+        ops.old.trace }
     ensures answers { ops.new.answers ≡ ops.old.answers }
 {
     if received.is_command(Command::PairingRandom) {
@@ -165,7 +188,10 @@ fn waiting_encrypted(
     machine: &mut Machine,
     received: Received<'_>,
 ) -> Result<(), Halt>
-    ensures ran { ran_machine ops.new.trace machine.new result ≡ run ops.old.answers.now (transition_from machine.old received.entry.payload.now received.entry.input phase.WaitingLinkEncrypted) ops.old.trace }
+    ensures ran { ran_machine ops.new.trace machine.new result
+        ≡ run ops.old.answers.now
+        (transition_from machine.old received.entry.payload.now received.entry.input phase.WaitingLinkEncrypted)
+        ops.old.trace }
     ensures answers { ops.new.answers ≡ ops.old.answers }
 {
     match received.link_encrypted() {
@@ -180,7 +206,11 @@ fn waiting_address(
     machine: &mut Machine,
     received: Received<'_>,
 ) -> Result<(), Halt>
-    ensures ran { ran_machine ops.new.trace machine.new result ≡ run ops.old.answers.now (transition_from machine.old received.entry.payload.now received.entry.input phase.WaitingIdentitityAddressInformation) ops.old.trace }
+    ensures ran { ran_machine ops.new.trace machine.new result
+        ≡ run ops.old.answers.now
+        (transition_from machine.old received.entry.payload.now received.entry.input
+        phase.WaitingIdentitityAddressInformation)
+        ops.old.trace }
     ensures answers { ops.new.answers ≡ ops.old.answers }
 {
     if received.is_command(Command::IdentityAddressInformation) {
@@ -198,7 +228,13 @@ fn receiving_keys(
     received_ltk: LongTermKey,
     received: Received<'_>,
 ) -> Result<(), Halt>
-    ensures ran { ran_machine ops.new.trace machine.new result ≡ run ops.old.answers.now (on_receiving_keys phase received.entry.input (handle_encryption_information machine.old.pairing_data received.entry.payload.now) (handle_central_identification machine.old.pairing_data received_ltk received.entry.payload.now) (other_input machine.old received.entry.payload.now received.entry.input)) ops.old.trace }
+    ensures ran { ran_machine ops.new.trace machine.new result
+        ≡ run ops.old.answers.now
+        (on_receiving_keys phase received.entry.input
+        (handle_encryption_information machine.old.pairing_data received.entry.payload.now)
+        (handle_central_identification machine.old.pairing_data received_ltk received.entry.payload.now)
+        (other_input machine.old received.entry.payload.now received.entry.input))
+        ops.old.trace }
     ensures answers { ops.new.answers ≡ ops.old.answers }
 {
     if phase == 0 && received.is_command(Command::EncryptionInformation) {
@@ -214,7 +250,8 @@ fn receiving_keys(
 
 #[tactic(auto, unfolding(protocol::specs::LegacyCentral::handle_link_encrypted_success, protocol::specs::LegacyCentral::await_keys))]
 fn handle_link_encrypted_success(ops: &mut Ops<'_>, machine: &mut Machine) -> Result<(), Halt>
-    ensures ran { ran_machine ops.new.trace machine.new result ≡ run ops.old.answers.now (handle_link_encrypted_success machine.old.pairing_data) ops.old.trace }
+    ensures ran { ran_machine ops.new.trace machine.new result
+        ≡ run ops.old.answers.now (handle_link_encrypted_success machine.old.pairing_data) ops.old.trace }
     ensures answers { ops.new.answers ≡ ops.old.answers }
 {
     if !machine.pairing_data.want_bonding() {
@@ -236,7 +273,11 @@ fn handle_link_encrypted_success(ops: &mut Ops<'_>, machine: &mut Machine) -> Re
 // The peripheral's identity key is awaited where the response names it; else the central sends its keys.
 #[tactic(auto, unfolding(protocol::specs::LegacyCentral::await_identity_or_send))]
 fn identity_or_own_keys(ops: &mut Ops<'_>, machine: &mut Machine) -> Result<(), Halt>
-    ensures ran { ran_machine ops.new.trace machine.new result ≡ run ops.old.answers.now (await_identity_or_send machine.old.pairing_data (names_identity_key machine.old.pairing_data.peer_features.responder_key_distribution)) ops.old.trace }
+    ensures ran { ran_machine ops.new.trace machine.new result
+        ≡ run ops.old.answers.now
+        (await_identity_or_send machine.old.pairing_data
+        (names_identity_key machine.old.pairing_data.peer_features.responder_key_distribution))
+        ops.old.trace }
     ensures answers { ops.new.answers ≡ ops.old.answers }
 {
     let features = machine.pairing_data.peer_features;
@@ -249,7 +290,10 @@ fn identity_or_own_keys(ops: &mut Ops<'_>, machine: &mut Machine) -> Result<(), 
 
 #[tactic(auto, unfolding(protocol::specs::LegacyCentral::handle_peer_confirm))]
 fn handle_peer_confirm(ops: &mut Ops<'_>, machine: &mut Machine, payload: &[u8]) -> Result<(), Halt>
-    ensures ran { ran_machine ops.new.trace machine.new result ≡ run ops.old.answers.now (handle_peer_confirm machine.old.confirm_data machine.old.pairing_data payload.now) ops.old.trace }
+    ensures ran { ran_machine ops.new.trace machine.new result
+        ≡ run ops.old.answers.now
+        (handle_peer_confirm machine.old.confirm_data machine.old.pairing_data payload.now)
+        ops.old.trace }
     ensures answers { ops.new.answers ≡ ops.old.answers }
 {
     let word = read_payload_word(payload).ok_or(Error::Security(Reason::InvalidParameters))?;
@@ -264,7 +308,10 @@ fn handle_pass_key_input(
     input: u32,
     confirm_bytes: Option<Confirm>,
 ) -> Result<(), Halt>
-    ensures ran { ran_machine ops.new.trace machine.new result ≡ run ops.old.answers.now (handle_pass_key_input machine.old.confirm_data machine.old.pairing_data input confirm_bytes) ops.old.trace }
+    ensures ran { ran_machine ops.new.trace machine.new result
+        ≡ run ops.old.answers.now
+        (handle_pass_key_input machine.old.confirm_data machine.old.pairing_data input confirm_bytes)
+        ops.old.trace }
     ensures answers { ops.new.answers ≡ ops.old.answers }
 {
     machine.confirm_data = ConfirmPhaseData {
@@ -290,7 +337,10 @@ fn handle_pairing_response(
     machine: &mut Machine,
     payload: &[u8],
 ) -> Result<(), Halt>
-    ensures ran { ran_machine ops.new.trace machine.new result ≡ run ops.old.answers.now (handle_pairing_response machine.old.confirm_data machine.old.pairing_data payload.now) ops.old.trace }
+    ensures ran { ran_machine ops.new.trace machine.new result
+        ≡ run ops.old.answers.now
+        (handle_pairing_response machine.old.confirm_data machine.old.pairing_data payload.now)
+        ops.old.trace }
     ensures answers { ops.new.answers ≡ ops.old.answers }
 {
     let peer_features = read_features(payload)?;
@@ -311,7 +361,10 @@ fn handle_central_identification(
     received_ltk: LongTermKey,
     payload: &[u8],
 ) -> Result<(), Halt>
-    ensures ran { ran_machine ops.new.trace machine.new result ≡ run ops.old.answers.now (handle_central_identification machine.old.pairing_data received_ltk payload.now) ops.old.trace }
+    ensures ran { ran_machine ops.new.trace machine.new result
+        ≡ run ops.old.answers.now
+        (handle_central_identification machine.old.pairing_data received_ltk payload.now)
+        ops.old.trace }
     ensures answers { ops.new.answers ≡ ops.old.answers }
 {
     let (ediv, rand) = read_identification(payload)?;
@@ -330,7 +383,10 @@ fn handle_identity_address_information(
     machine: &mut Machine,
     payload: &[u8],
 ) -> Result<(), Halt>
-    ensures ran { ran_machine ops.new.trace machine.new result ≡ run ops.old.answers.now (handle_identity_address_information machine.old.pairing_data payload.now) ops.old.trace }
+    ensures ran { ran_machine ops.new.trace machine.new result
+        ≡ run ops.old.answers.now
+        (handle_identity_address_information machine.old.pairing_data payload.now)
+        ops.old.trace }
     ensures answers { ops.new.answers ≡ ops.old.answers }
 {
     let peer_address = read_identity_address(payload)?;

@@ -4,18 +4,29 @@
 // are what C can take.
 #![tactic(auto)]
 
-ghost use Rattle.std.specs.Prelude.{◌≡◌};
+ghost use Rattle.std.specs.Prelude.{◌≡◌, ◌∷◌};
 ghost use Rattle.std.specs.Result.{MatchResult};
-ghost use Rattle.c_values.specs.Values.{wrote, read_features_on, write_features_on, c1_on, s1_on, counted, count_on, call_left, call_on};
-ghost use Rattle.c_steps.specs.Steps.{step_left, step_on, new_on};
+ghost use Rattle.c_values.specs.Values.{version, wrote, read_features_on, write_features_on, c1_on, s1_on, counted, count_on, call_left, call_on};
+ghost use Rattle.c_steps.specs.Steps.{step_left, step_on, new_on, status_left, status_on, result_number, error_octets};
 
+use bond::Error;
 use c_steps::StepError;
+
+// Major, minor and patch, an octet each.
+const VERSION: u32 = 0x000200;
 
 // What a function returns that has done all; the numbers of the errors are theirs.
 const DONE: u8 = 0;
 
 // What a step returns that wants an answer.
 const WANTS: u8 = 255;
+
+// How a pairing stands.
+const PENDING: u8 = 0;
+
+const SUCCEEDED: u8 = 1;
+
+const FAILED: u8 = 2;
 
 // The number of a result: 0, or that of its error.
 fn code<E: Into<u8>>(given: Result<(), E>) -> u8
@@ -25,6 +36,14 @@ fn code<E: Into<u8>>(given: Result<(), E>) -> u8
         Ok(()) => DONE,
         Err(e) => e.into(),
     }
+}
+
+// The version of this library, for a host to hold against the header that it was compiled with.
+#[unsafe(no_mangle)]
+pub extern "C" fn legacy_pairing_version() -> u32
+    ensures { result ≡ version }
+{
+    VERSION
 }
 
 // One step of the machine whose record is given, of role 0 (terminal) or 1 (head), on an input, the host's answers so
@@ -41,7 +60,8 @@ pub extern "C" fn legacy_pairing_step(
     read: &mut usize,
     written: &mut usize,
 ) -> u8
-    ensures { step_left result machine.new list.new read.new written.new ≡ step_on role machine.old input payload.now answers.now list.old read.old written.old }
+    ensures { step_left result machine.new list.new read.new written.new
+        ≡ step_on role machine.old input payload.now answers.now list.old read.old written.old }
 {
     match c_steps::step_machine(role, machine, input, payload, answers, list) {
         Ok(progress) => {
@@ -69,9 +89,52 @@ pub extern "C" fn legacy_pairing_new(
     features: &[u8],
     machine: &mut [u8],
 ) -> u8
-    ensures { wrote result machine.new ≡ new_on role local_address.now peer_address.now features.now machine.old }
+    ensures { wrote result machine.new
+        ≡ new_on role local_address.now peer_address.now features.now machine.old }
 {
     code(c_steps::new_machine(role, local_address, peer_address, features, machine))
+}
+
+// What a result is in numbers, while a pairing goes on, when it has succeeded and when it has failed, with the two octets
+// of document 01's failed body, zeros unless it has failed.
+#[tactic(auto, unfolding(c_steps::specs::Steps::status_on))]
+fn result_octets(given: Option<Result<(), Error>>) -> [u8; 3]
+    ensures { result ≡ result_number given ∷ error_octets given }
+{
+    match given {
+        None => [PENDING, 0, 0],
+        Some(Ok(())) => [SUCCEEDED, 0, 0],
+        Some(Err(e)) => {
+            let [kind, detail] = e.failed_body();
+            [FAILED, kind, detail]
+        }
+    }
+}
+
+// How the machine stands whose record is given: its result, with the kind and the detail of its error; whether the link is
+// encrypted, 0 or 1; and the security level.
+#[unsafe(no_mangle)]
+pub extern "C" fn legacy_pairing_result(
+    role: u8,
+    machine: &[u8],
+    outcome: &mut u8,
+    kind: &mut u8,
+    detail: &mut u8,
+    encrypted: &mut u8,
+    level: &mut u8,
+) -> u8
+    ensures { status_left result outcome.new kind.new detail.new encrypted.new level.new
+        ≡ status_on role machine.now outcome.old kind.old detail.old encrypted.old level.old }
+{
+    match c_steps::machine_status(role, machine) {
+        Ok(status) => {
+            [*outcome, *kind, *detail] = result_octets(status.result);
+            *encrypted = u8::from(status.is_encrypted);
+            *level = status.security_level;
+            DONE
+        }
+        Err(e) => u8::from(e),
+    }
 }
 
 // Reads pairing features: of a packet's payload, the six fields, an octet each.
@@ -93,7 +156,8 @@ pub extern "C" fn legacy_pairing_write_features(
     responder_keys: u8,
     payload: &mut [u8],
 ) -> u8
-    ensures { wrote result payload.new ≡ write_features_on io oob auth_req key_size initiator_keys responder_keys payload.old }
+    ensures { wrote result payload.new
+        ≡ write_features_on io oob auth_req key_size initiator_keys responder_keys payload.old }
 {
     code(c_values::write_features(
         io,
@@ -117,7 +181,8 @@ pub extern "C" fn legacy_pairing_c1(
     responder: &[u8],
     confirm: &mut [u8],
 ) -> u8
-    ensures { wrote result confirm.new ≡ c1_on k.now r.now preq.now pres.now initiator.now responder.now confirm.old }
+    ensures { wrote result confirm.new
+        ≡ c1_on k.now r.now preq.now pres.now initiator.now responder.now confirm.old }
 {
     code(c_values::confirm_value(k, r, preq, pres, initiator, responder, confirm))
 }
@@ -154,7 +219,8 @@ pub extern "C" fn legacy_pairing_call_at(
     body: &mut usize,
     size: &mut usize,
 ) -> u8
-    ensures { call_left result kind.new body.new size.new ≡ call_on list.now index kind.old body.old size.old }
+    ensures { call_left result kind.new body.new size.new
+        ≡ call_on list.now index kind.old body.old size.old }
 {
     match c_values::call_at(list, index) {
         Ok(call) => {

@@ -36,7 +36,10 @@ pub fn handle_input(
     machine: &mut Machine,
     received: Received<'_>,
 ) -> Result<(), Stop>
-    ensures ran { ran_entered ops.new.trace machine.new result ≡ run ops.old.answers.now (handle_input machine.old received.entry.input received.entry.payload.now) ops.old.trace }
+    ensures ran { ran_entered ops.new.trace machine.new result
+        ≡ run ops.old.answers.now
+        (handle_input machine.old received.entry.input received.entry.payload.now)
+        ops.old.trace }
     ensures answers { ops.new.answers ≡ ops.old.answers }
     ensures kept { OnErr result (machine.new ≡ machine.old) }
 {
@@ -48,7 +51,10 @@ pub fn handle_input(
 // A row for each state.
 #[tactic(auto, unfolding(protocol::specs::LegacyPeripheral::transition))]
 fn transition(ops: &mut Ops<'_>, machine: &mut Machine, received: Received<'_>) -> Result<(), Halt>
-    ensures ran { ran_machine ops.new.trace machine.new result ≡ run ops.old.answers.now (transition machine.old received.entry.input received.entry.payload.now) ops.old.trace }
+    ensures ran { ran_machine ops.new.trace machine.new result
+        ≡ run ops.old.answers.now
+        (transition machine.old received.entry.input received.entry.payload.now)
+        ops.old.trace }
     ensures answers { ops.new.answers ≡ ops.old.answers }
 {
     match machine.phase {
@@ -76,7 +82,10 @@ fn waiting_request(
     machine: &mut Machine,
     received: Received<'_>,
 ) -> Result<(), Halt>
-    ensures ran { ran_machine ops.new.trace machine.new result ≡ run ops.old.answers.now (transition_from machine.old received.entry.payload.now received.entry.input phase.WaitingPairingRequest) ops.old.trace }
+    ensures ran { ran_machine ops.new.trace machine.new result
+        ≡ run ops.old.answers.now
+        (transition_from machine.old received.entry.payload.now received.entry.input phase.WaitingPairingRequest)
+        ops.old.trace }
     ensures answers { ops.new.answers ≡ ops.old.answers }
 {
     if received.is_command(Command::PairingRequest) {
@@ -94,7 +103,11 @@ fn waiting_pass_key(
     confirm_bytes: Option<Confirm>,
     received: Received<'_>,
 ) -> Result<(), Halt>
-    ensures ran { ran_machine ops.new.trace machine.new result ≡ run ops.old.answers.now (transition_from machine.old received.entry.payload.now received.entry.input (phase.WaitingPassKeyInput confirm_bytes)) ops.old.trace }
+    ensures ran { ran_machine ops.new.trace machine.new result
+        ≡ run ops.old.answers.now
+        (transition_from machine.old received.entry.payload.now received.entry.input
+        (phase.WaitingPassKeyInput confirm_bytes))
+        ops.old.trace }
     ensures answers { ops.new.answers ≡ ops.old.answers }
 {
     if received.is_command(Command::PairingConfirm) {
@@ -111,7 +124,8 @@ fn waiting_pass_key(
 
 // OOB data is the temporary key.
 fn waiting_oob_data(machine: &mut Machine, received: Received<'_>) -> Result<(), Error>
-    ensures { ret (tried machine.new result) ≡ transition_from machine.old received.entry.payload.now received.entry.input phase.WaitingOobData }
+    ensures { ret (tried machine.new result)
+        ≡ transition_from machine.old received.entry.payload.now received.entry.input phase.WaitingOobData }
 {
     let Some(random) = received.oob_data_received() else {
         return other_input(machine, received);
@@ -130,7 +144,10 @@ fn waiting_confirm(
     machine: &mut Machine,
     received: Received<'_>,
 ) -> Result<(), Halt>
-    ensures ran { ran_machine ops.new.trace machine.new result ≡ run ops.old.answers.now (transition_from machine.old received.entry.payload.now received.entry.input phase.WaitingPairingConfirm) ops.old.trace }
+    ensures ran { ran_machine ops.new.trace machine.new result
+        ≡ run ops.old.answers.now
+        (transition_from machine.old received.entry.payload.now received.entry.input phase.WaitingPairingConfirm)
+        ops.old.trace }
     ensures answers { ops.new.answers ≡ ops.old.answers }
 {
     if received.is_command(Command::PairingConfirm) {
@@ -145,7 +162,11 @@ fn waiting_random(
     peer_confirm: Confirm,
     received: Received<'_>,
 ) -> Result<(), Halt>
-    ensures ran { ran_machine ops.new.trace machine.new result ≡ run ops.old.answers.now (transition_from machine.old received.entry.payload.now received.entry.input (phase.WaitingPairingRandom peer_confirm)) ops.old.trace }
+    ensures ran { ran_machine ops.new.trace machine.new result
+        ≡ run ops.old.answers.now
+        (transition_from machine.old received.entry.payload.now received.entry.input
+        (phase.WaitingPairingRandom peer_confirm))
+        ops.old.trace }
     ensures answers { ops.new.answers ≡ ops.old.answers }
 {
     if received.is_command(Command::PairingRandom) {
@@ -159,7 +180,10 @@ fn waiting_encrypted(
     machine: &mut Machine,
     received: Received<'_>,
 ) -> Result<(), Halt>
-    ensures ran { ran_machine ops.new.trace machine.new result ≡ run ops.old.answers.now (transition_from machine.old received.entry.payload.now received.entry.input phase.WaitingLinkEncrypted) ops.old.trace }
+    ensures ran { ran_machine ops.new.trace machine.new result
+        ≡ run ops.old.answers.now
+        (transition_from machine.old received.entry.payload.now received.entry.input phase.WaitingLinkEncrypted)
+        ops.old.trace }
     ensures answers { ops.new.answers ≡ ops.old.answers }
 {
     if let Some(encrypted) = received.link_encrypted() {
@@ -169,7 +193,9 @@ fn waiting_encrypted(
 }
 
 fn waiting_address(machine: &mut Machine, received: Received<'_>) -> Result<(), Error>
-    ensures { ret (tried machine.new result) ≡ transition_from machine.old received.entry.payload.now received.entry.input phase.WaitingIdentitityAddressInformation }
+    ensures { ret (tried machine.new result)
+        ≡ transition_from machine.old received.entry.payload.now received.entry.input
+        phase.WaitingIdentitityAddressInformation }
 {
     if received.is_command(Command::IdentityAddressInformation) {
         return handle_identity_address_information(machine, received.payload);
@@ -180,7 +206,11 @@ fn waiting_address(machine: &mut Machine, received: Received<'_>) -> Result<(), 
 // The phase says which of the two packets comes next; the LTK that came is not kept.
 // The phase is a number, as in the Rust: a record may hold any octet, and any other awaits nothing.
 fn receiving_keys(machine: &mut Machine, phase: u8, received: Received<'_>) -> Result<(), Error>
-    ensures { ret (tried machine.new result) ≡ on_receiving_keys phase received.entry.input (handle_encryption_information machine.old.pairing_data received.entry.payload.now) (handle_central_identification machine.old.pairing_data received.entry.payload.now) (other_input machine.old received.entry.payload.now received.entry.input) }
+    ensures { ret (tried machine.new result)
+        ≡ on_receiving_keys phase received.entry.input
+        (handle_encryption_information machine.old.pairing_data received.entry.payload.now)
+        (handle_central_identification machine.old.pairing_data received.entry.payload.now)
+        (other_input machine.old received.entry.payload.now received.entry.input) }
 {
     if phase == 0 && received.is_command(Command::EncryptionInformation) {
         return handle_encryption_information(machine, received.payload);
@@ -198,7 +228,10 @@ fn handle_link_encrypted(
     before_request: bool,
     encrypted: bool,
 ) -> Result<(), Halt>
-    ensures ran { ran_machine ops.new.trace machine.new result ≡ run ops.old.answers.now (link_encrypted machine.old.pairing_data before_request encrypted) ops.old.trace }
+    ensures ran { ran_machine ops.new.trace machine.new result
+        ≡ run ops.old.answers.now
+        (link_encrypted machine.old.pairing_data before_request encrypted)
+        ops.old.trace }
     ensures answers { ops.new.answers ≡ ops.old.answers }
 {
     if !encrypted {
@@ -216,7 +249,10 @@ fn handle_link_encrypted_success(
     machine: &mut Machine,
     before_request: bool,
 ) -> Result<(), Halt>
-    ensures ran { ran_machine ops.new.trace machine.new result ≡ run ops.old.answers.now (handle_link_encrypted_success machine.old.pairing_data before_request) ops.old.trace }
+    ensures ran { ran_machine ops.new.trace machine.new result
+        ≡ run ops.old.answers.now
+        (handle_link_encrypted_success machine.old.pairing_data before_request)
+        ops.old.trace }
     ensures answers { ops.new.answers ≡ ops.old.answers }
 {
     if before_request {
@@ -232,7 +268,8 @@ fn handle_link_encrypted_success(
 // The central's identity key is awaited where the request names it.
 #[tactic(auto, unfolding(protocol::specs::LegacyPeripheral::await_identity_or_succeed))]
 fn identity_or_success(machine: &mut Machine)
-    ensures { ret (tried machine.new (Ok tt)) ≡ await_identity_or_succeed machine.old.pairing_data (identity_named machine.old.pairing_data) }
+    ensures { ret (tried machine.new (Ok tt))
+        ≡ await_identity_or_succeed machine.old.pairing_data (identity_named machine.old.pairing_data) }
 {
     let named = machine
         .pairing_data
@@ -247,7 +284,10 @@ fn identity_or_success(machine: &mut Machine)
 
 #[tactic(auto, unfolding(protocol::specs::LegacyPeripheral::handle_peer_confirm))]
 fn handle_peer_confirm(ops: &mut Ops<'_>, machine: &mut Machine, payload: &[u8]) -> Result<(), Halt>
-    ensures ran { ran_machine ops.new.trace machine.new result ≡ run ops.old.answers.now (handle_peer_confirm machine.old.confirm_data machine.old.pairing_data payload.now) ops.old.trace }
+    ensures ran { ran_machine ops.new.trace machine.new result
+        ≡ run ops.old.answers.now
+        (handle_peer_confirm machine.old.confirm_data machine.old.pairing_data payload.now)
+        ops.old.trace }
     ensures answers { ops.new.answers ≡ ops.old.answers }
 {
     let word = read_payload_word(payload).ok_or(Error::Security(Reason::InvalidParameters))?;
@@ -261,7 +301,10 @@ fn answer_confirm(
     machine: &mut Machine,
     peer_confirm: Confirm,
 ) -> Result<(), Halt>
-    ensures ran { ran_machine ops.new.trace machine.new result ≡ run ops.old.answers.now (answer_confirm machine.old.confirm_data machine.old.pairing_data peer_confirm) ops.old.trace }
+    ensures ran { ran_machine ops.new.trace machine.new result
+        ≡ run ops.old.answers.now
+        (answer_confirm machine.old.confirm_data machine.old.pairing_data peer_confirm)
+        ops.old.trace }
     ensures answers { ops.new.answers ≡ ops.old.answers }
 {
     machine.confirm_data.local_nonce = send_sconfirm(ops, machine)?;
@@ -277,7 +320,10 @@ fn handle_pass_key_input(
     input: u32,
     confirm_bytes: Option<Confirm>,
 ) -> Result<(), Halt>
-    ensures ran { ran_machine ops.new.trace machine.new result ≡ run ops.old.answers.now (handle_pass_key_input machine.old.confirm_data machine.old.pairing_data input confirm_bytes) ops.old.trace }
+    ensures ran { ran_machine ops.new.trace machine.new result
+        ≡ run ops.old.answers.now
+        (handle_pass_key_input machine.old.confirm_data machine.old.pairing_data input confirm_bytes)
+        ops.old.trace }
     ensures answers { ops.new.answers ≡ ops.old.answers }
 {
     machine.confirm_data = ConfirmPhaseData {
@@ -297,7 +343,8 @@ fn handle_pass_key_input(
 // Sends all of the responder's keys at once.
 #[tactic(auto, using(host_ops::proofs::Laws::run_bind), unfolding(protocol::specs::LegacyPeripheral::send_all_keys, protocol::specs::LegacyPeripheral::await_keys))]
 fn send_all_keys(ops: &mut Ops<'_>, machine: &mut Machine) -> Result<(), Halt>
-    ensures ran { ran_machine ops.new.trace machine.new result ≡ run ops.old.answers.now (send_all_keys machine.old.pairing_data) ops.old.trace }
+    ensures ran { ran_machine ops.new.trace machine.new result
+        ≡ run ops.old.answers.now (send_all_keys machine.old.pairing_data) ops.old.trace }
     ensures answers { ops.new.answers ≡ ops.old.answers }
 {
     let local = machine.pairing_data.local_features;
@@ -322,7 +369,8 @@ fn send_all_keys(ops: &mut Ops<'_>, machine: &mut Machine) -> Result<(), Halt>
 // The central's EDIV and Rand are not kept: the bond has the peripheral's own.
 #[tactic(auto, unfolding(protocol::specs::LegacyPeripheral::handle_central_identification))]
 fn handle_central_identification(machine: &mut Machine, payload: &[u8]) -> Result<(), Error>
-    ensures { ret (tried machine.new result) ≡ handle_central_identification machine.old.pairing_data payload.now }
+    ensures { ret (tried machine.new result)
+        ≡ handle_central_identification machine.old.pairing_data payload.now }
 {
     read_identification(payload)?;
     identity_or_success(machine);
@@ -331,7 +379,8 @@ fn handle_central_identification(machine: &mut Machine, payload: &[u8]) -> Resul
 
 #[tactic(auto, unfolding(protocol::specs::LegacyPeripheral::handle_identity_address_information))]
 fn handle_identity_address_information(machine: &mut Machine, payload: &[u8]) -> Result<(), Error>
-    ensures { ret (tried machine.new result) ≡ handle_identity_address_information machine.old.pairing_data payload.now }
+    ensures { ret (tried machine.new result)
+        ≡ handle_identity_address_information machine.old.pairing_data payload.now }
 {
     let address = read_identity_address(payload)?;
     machine.pairing_data = with_identity_address(machine.pairing_data, address);

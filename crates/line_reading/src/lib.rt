@@ -7,6 +7,7 @@ ghost use Rattle.line_reading.specs.Lines.{most, digit_of, octets_in, octets_of_
 ghost use Rattle.line_reading.specs.Lines.{machine_in, link_of, event_alone, command_of, pass_key_of, oob_data_of, input_of, may_carry};
 ghost use Rattle.line_reading.specs.Lines.{size_of, laid, SplitAs, fields_read, LineRead};
 
+use arrayvec::ArrayVec;
 use hex::{FromHex, decode_to_slice};
 use machine::{Event, Input, Machine, Role};
 use machine_record::{RECORD_SIZE, read_machine};
@@ -239,16 +240,19 @@ fn split_line(line: &[u8]) -> Option<Fields<'_>>
     if 20000 < line.len() {
         return None;
     }
-    let mut fields = line.split(|c| *c == b' ');
-    let found = Fields {
-        role: fields.next()?,
-        room: fields.next()?,
-        machine: fields.next()?,
-        input: fields.next()?,
-        payload: fields.next()?,
-        answers: fields.next()?,
+    let mut fields = ArrayVec::<&[u8], 6>::new();
+    fields.extend(line.split(|c| *c == b' ')).ok()?;
+    let &[role, room, machine, input, payload, answers] = fields.as_slice() else {
+        return None;
     };
-    fields.next().is_none().then_some(found)
+    Some(Fields {
+        role,
+        room,
+        machine,
+        input,
+        payload,
+        answers,
+    })
 }
 
 // Reads a line, given without its line feed. The octets of PAYLOAD and ANSWERS are laid at the front of the lent

@@ -82,7 +82,9 @@ fn field_length(octets: &[u8]) -> usize
 #[tactic(auto, using(crate::proofs::Texts::octets_length))]
 fn put_answer(head: &[u8], machine: &[u8; RECORD_SIZE], list: &[u8], out: &mut [u8])
     requires { length head.now + 324 + length (octets_text list.now) ≤ length out.old }
-    ensures { out.new ≡ write_at out.old 0 (head.now ++ (octets_text machine.now ++ (space ∷ (octets_text list.now ++ (line_feed ∷ []))))) }
+    ensures { out.new
+        ≡ write_at out.old 0
+        (head.now ++ (octets_text machine.now ++ (space ∷ (octets_text list.now ++ (line_feed ∷ []))))) }
 {
     let machine_at = head.len();
     let list_at = machine_at + 323;

@@ -201,7 +201,12 @@ impl Machine {
 
     // Another state is entered, with what it holds of the confirm data; the rest is zero.
     pub fn enters(&mut self, phase: Phase)
-        ensures { self.new ≡ record { phase = phase; confirm_data = kept_by phase self.old.confirm_data; pairing_data = self.old.pairing_data } }
+        ensures { self.new
+            ≡ record {
+              phase = phase;
+              confirm_data = kept_by phase self.old.confirm_data;
+              pairing_data = self.old.pairing_data;
+            } }
     {
         self.phase = phase;
         self.confirm_data = self.confirm_data.kept_by(phase);

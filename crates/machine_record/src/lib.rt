@@ -278,7 +278,8 @@ fn read_method(code: u8) -> Result<PairingMethod, RecordError>
 // Octets 109 to 160: a bond is read only where it is present.
 #[tactic(auto, using(crate::proofs::Back::present_read))]
 fn read_option_bond(record: &[u8; RECORD_SIZE]) -> Result<Option<BondInformation>, RecordError>
-    ensures { answer_of record_refusal result ≡ option_bond_of (get_or «record».now 109 0) (octets_at 51 110 «record».now) }
+    ensures { answer_of record_refusal result
+        ≡ option_bond_of (get_or «record».now 109 0) (octets_at 51 110 «record».now) }
 {
     let present = read_flag(record[109]).ok_or(RecordError::Bond)?;
     if !present {

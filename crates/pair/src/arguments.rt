@@ -1,7 +1,8 @@
-// The arguments: a scene or two feature records, and --late. Wrong ones are answered by one line, which says what is
-// wrong and what would be right.
+// The arguments: a scene or two feature records, --late and --btsnoop; or --help. Wrong ones are answered by
+// an error, which names the word and says what would be right.
 use crate::ends::{Ends, end_name};
 use crate::print::{Quoted, printable};
+use crate::scenes::{Title, find_scene};
 use arrayvec::ArrayVec;
 use hex::{FromHex, FromHexError};
 use machine::Role;
@@ -9,15 +10,27 @@ use smp_types::{IoCapabilities, PairingFeatures, UseOutOfBand};
 use std::env::{Env, FillError};
 use std::fmt;
 
-// The longest argument that is looked at.
+// The longest argument that is looked at whole.
 const LONGEST: usize = 64;
 
-// An argument. One that is longer reads as empty: no scene and no record has such a name.
+// The most arguments that may be right: two options and two records.
+const MOST: usize = 4;
+
+// An argument. A longer one is its first octets: no scene, record or option has as many.
 type Word = ArrayVec<u8, LONGEST>;
 
-pub(crate) struct Arguments {
+// The pairing that is to be played.
+pub(crate) struct Pairing {
+    pub title: Title,
     pub records: Ends<PairingFeatures>,
     pub is_late: bool,
+}
+
+// What the arguments ask for.
+pub(crate) enum Wanted {
+    Help,
+    Text(Pairing),
+    Btsnoop(Pairing),
 }
 
 // What is wrong with a feature record.
@@ -44,7 +57,7 @@ impl fmt::Display for RecordError {
         match *self {
             RecordError::Length => write!(
                 f,
-                "does not have 12 characters. Right: two digits each for I/O, OOB, AuthReq, key size, \
+                "does not have 12 digits. Right: two each for I/O, OOB, AuthReq, key size, \
                  initiator keys, responder keys."
             ),
             RecordError::Character(c) => write!(
@@ -68,58 +81,59 @@ impl fmt::Display for RecordError {
 #[derive(Drop)]
 pub(crate) enum ArgumentError {
     Nothing,
-    TooMany,
+    NoOption(Word),
+    TooMany(Word),
     NoScene(Word),
-    Record(Role, RecordError),
-    // the head's record names an initiator key that the terminal's lacks
-    NoFairStart(&'static str),
+    OneRecord(Word),
+    Record(Role, Word, RecordError),
+    // the head's record, which names an initiator key that the terminal's lacks
+    NoFairStart(Word, &'static str),
 }
-
-const RIGHT: &str = "Right: pair [--late] SCENE, of clerk, bonded, passkey, typed, oob, plain; \
-                     or pair [--late] TERMINAL HEAD, each 12 hexadecimal digits.";
 
 impl fmt::Display for ArgumentError {
     fn fmt<W: fmt::Write>(&self, f: &mut fmt::Formatter<W>) -> fmt::Result {
         match self {
-            ArgumentError::Nothing => write!(f, "no scene and no records are given. {RIGHT}"),
-            ArgumentError::TooMany => write!(f, "there are too many arguments. {RIGHT}"),
-            ArgumentError::NoScene(name) if name.is_empty() => {
-                write!(f, "there is no such scene. {RIGHT}")
-            }
-            ArgumentError::NoScene(name) => {
-                write!(f, "there is no scene {}. {RIGHT}", Quoted(name))
-            }
-            ArgumentError::Record(role, e) => write!(f, "the {}'s record {e}", end_name(*role)),
-            ArgumentError::NoFairStart(key) => write!(
+            ArgumentError::Nothing => f.write_str(
+                "no scene is given, and no records. Right: one of the scenes below, or two records.",
+            ),
+            ArgumentError::NoOption(word) => write!(
                 f,
-                "the head's record names the initiator key {key}, which the terminal's lacks: \
-                 no fair start. Right: both name it, or the head's does not."
+                "{} is no option. Right: --late, --btsnoop, --help.",
+                Quoted(word)
+            ),
+            ArgumentError::TooMany(word) => write!(
+                f,
+                "{} is one word too many. Right: one scene, or two records; each option once.",
+                Quoted(word)
+            ),
+            ArgumentError::NoScene(word) => write!(
+                f,
+                "{} is no scene. Right: one of the scenes below, or two records.",
+                Quoted(word)
+            ),
+            ArgumentError::OneRecord(word) => write!(
+                f,
+                "{} is one record. Right: two, the terminal's and then the head's.",
+                Quoted(word)
+            ),
+            ArgumentError::Record(role, word, e) => {
+                write!(f, "the {}'s record {} {e}", end_name(*role), Quoted(word))
+            }
+            ArgumentError::NoFairStart(word, key) => write!(
+                f,
+                "the head's record {} names the initiator key {key}, which the terminal's lacks. \
+                 Right: both name it, or the head's does not.",
+                Quoted(word)
             ),
         }
     }
 }
 
-// The digits of the two records of a scene.
-fn scene(name: &[u8]) -> Option<Ends<&'static str>> {
-    let (terminal, head) = match name {
-        // no common wish to bond, and the request names the terminal's identity key
-        b"clerk" => ("030001100303", "030000100003"),
-        b"bonded" => ("030001100303", "030001100303"),
-        b"passkey" => ("000005100303", "020005100303"),
-        b"typed" => ("020005100303", "020005100303"),
-        b"oob" => ("030101100303", "030101100303"),
-        b"plain" => ("030000100000", "030000100000"),
-        _ => return None,
-    };
-    Some(Ends { terminal, head })
+fn word_of(text: &[u8]) -> Word {
+    Word::try_from(text).unwrap_or_default()
 }
 
-// The octets of a record.
-fn read_digits(role: Role, text: &[u8]) -> Result<[u8; 6], ArgumentError> {
-    <[u8; 6]>::from_hex(text).map_err(|e| ArgumentError::Record(role, RecordError::from(e)))
-}
-
-// The features of a record, or what it has that is refused.
+// The features of a record's octets, or what they have that is refused.
 fn decode(octets: [u8; 6]) -> Result<PairingFeatures, RecordError> {
     PairingFeatures::decode(&octets).map_err(|_| {
         let [io, oob, _, size, _, _] = octets;
@@ -133,40 +147,68 @@ fn decode(octets: [u8; 6]) -> Result<PairingFeatures, RecordError> {
     })
 }
 
-fn read_features(role: Role, octets: [u8; 6]) -> Result<PairingFeatures, ArgumentError> {
-    decode(octets).map_err(|e| ArgumentError::Record(role, e))
+// The features of a record's digits.
+fn read_digits(text: &[u8]) -> Result<PairingFeatures, RecordError> {
+    decode(<[u8; 6]>::from_hex(text)?)
 }
 
-// Whether a fair link may start so: the head's record names no initiator key that the terminal's lacks.
-fn check_fair(records: Ends<PairingFeatures>) -> Result<(), ArgumentError> {
+fn read_record(role: Role, text: &[u8]) -> Result<PairingFeatures, ArgumentError> {
+    read_digits(text).map_err(|e| ArgumentError::Record(role, word_of(text), e))
+}
+
+// The key that keeps a fair link from starting so, if any: an initiator key that the head's record names and
+// the terminal's lacks.
+fn key_too_many(records: Ends<PairingFeatures>) -> Option<&'static str> {
     let terminal = records.terminal.initiator_key_distribution;
     let head = records.head.initiator_key_distribution;
     if head.encryption_key() && !terminal.encryption_key() {
-        return Err(ArgumentError::NoFairStart("EncKey"));
+        Some("EncKey")
+    } else if head.identity_key() && !terminal.identity_key() {
+        Some("IdKey")
+    } else {
+        None
     }
-    if head.identity_key() && !terminal.identity_key() {
-        return Err(ArgumentError::NoFairStart("IdKey"));
-    }
-    Ok(())
 }
 
 // Reads both records.
 fn read_records(terminal: &[u8], head: &[u8]) -> Result<Ends<PairingFeatures>, ArgumentError> {
-    let terminal = read_digits(Role::Central, terminal)?;
-    let head = read_digits(Role::Peripheral, head)?;
     let records = Ends {
-        terminal: read_features(Role::Central, terminal)?,
-        head: read_features(Role::Peripheral, head)?,
+        terminal: read_record(Role::Central, terminal)?,
+        head: read_record(Role::Peripheral, head)?,
     };
-    check_fair(records)?;
-    Ok(records)
+    match key_too_many(records) {
+        Some(key) => Err(ArgumentError::NoFairStart(word_of(head), key)),
+        None => Ok(records),
+    }
 }
 
-fn read_scene(name: &[u8]) -> Result<Ends<PairingFeatures>, ArgumentError> {
-    match scene(name) {
-        Some(digits) => read_records(digits.terminal.as_bytes(), digits.head.as_bytes()),
-        None => Err(ArgumentError::NoScene(Word::try_from(name).unwrap_or_default())),
+// A lone word.
+fn read_scene(name: &[u8], is_late: bool) -> Result<Pairing, ArgumentError> {
+    match find_scene(name) {
+        Some(scene) => Ok(Pairing {
+            title: Title::Scene(scene),
+            records: read_records(
+                scene.digits.terminal.as_bytes(),
+                scene.digits.head.as_bytes(),
+            )?,
+            is_late,
+        }),
+        None if read_digits(name).is_ok() => Err(ArgumentError::OneRecord(word_of(name))),
+        None => Err(ArgumentError::NoScene(word_of(name))),
     }
+}
+
+// Two words.
+fn read_two(first: &[u8], second: &[u8], is_late: bool) -> Result<Pairing, ArgumentError> {
+    if find_scene(first).is_some() {
+        return Err(ArgumentError::TooMany(word_of(second)));
+    }
+    let records = read_records(first, second)?;
+    Ok(Pairing {
+        title: Title::ByHand(records),
+        records,
+        is_late,
+    })
 }
 
 // The argument at an index, if there is one.
@@ -178,27 +220,37 @@ fn argument(rt: &impl Env, index: usize) -> Option<Word> {
             word.truncate(size);
             Some(word)
         }
-        Err(FillError::TooLong) => Some(Word::new()),
+        Err(FillError::TooLong) => Some(Word::from(octets)),
         Err(FillError::NotPresent) => None,
     }
 }
 
-// Reads the feature records that the arguments name, or says what is wrong.
-pub(crate) fn read_arguments(rt: &impl Env) -> Result<Arguments, ArgumentError> {
+// Reads what the arguments ask for, or says what is wrong.
+pub(crate) fn read_arguments(rt: &impl Env) -> Result<Wanted, ArgumentError> {
     let mut is_late = false;
+    let mut is_btsnoop = false;
     let mut words = ArrayVec::<Word, 2>::new();
-    // by index, since std's iterator over the arguments allocates; a third word is too many
-    for word in (1..=4).map_while(|index| argument(rt, index)) {
-        if !is_late && word.as_slice() == b"--late".as_slice() {
-            is_late = true;
-        } else {
-            words.try_push(word).map_err(|_| ArgumentError::TooMany)?;
+    // by index, since std's iterator over the arguments allocates; of more than the most, one is wrong
+    for word in (1..=MOST + 1).map_while(|index| argument(rt, index)) {
+        match word.as_slice() {
+            b"--help" | b"-h" => return Ok(Wanted::Help),
+            b"--late" if !is_late => is_late = true,
+            b"--btsnoop" if !is_btsnoop => is_btsnoop = true,
+            b"--late" | b"--btsnoop" => return Err(ArgumentError::TooMany(word)),
+            [b'-', ..] => return Err(ArgumentError::NoOption(word)),
+            _ => words
+                .try_push(word)
+                .map_err(|e| ArgumentError::TooMany(e.element()))?,
         }
     }
-    let records = match words.as_slice() {
+    let pairing = match words.as_slice() {
         [] => return Err(ArgumentError::Nothing),
-        [name] => read_scene(name)?,
-        [terminal, head, ..] => read_records(terminal, head)?,
+        [name] => read_scene(name, is_late)?,
+        [first, second, ..] => read_two(first, second, is_late)?,
     };
-    Ok(Arguments { records, is_late })
+    Ok(if is_btsnoop {
+        Wanted::Btsnoop(pairing)
+    } else {
+        Wanted::Text(pairing)
+    })
 }

@@ -1,12 +1,13 @@
 // The fair link of document 01, played in a fixed order. An event due is taken before any packet, the head's before the
 // terminal's. Where events come late, packets are taken first, and the terminal's event before the head's: its Confirm
 // then reaches a head that still waits for its passkey.
-use crate::arguments::Arguments;
+use crate::arguments::Pairing;
 use crate::end::{End, Given, Timing};
 use crate::ends::{Ends, peer};
 use crate::packet::Packet;
-use crate::trace::{input_line, start, state_line, summary};
+use crate::trace::Trace;
 use machine::Role;
+use smp_types::PairingFeatures;
 use std::io;
 
 // An end, and the input that it gets.
@@ -24,8 +25,7 @@ struct Link {
 
 impl Link {
     // At the start only the request is on its way, to the head.
-    fn new(arguments: Arguments) -> Link {
-        let Arguments { records, is_late } = arguments;
+    fn new(records: Ends<PairingFeatures>, is_late: bool) -> Link {
         let mut terminal = End::new(Role::Central, records.terminal);
         let head = End::new(Role::Peripheral, records.head);
         terminal.send(Packet::PairingRequest(records.terminal));
@@ -71,7 +71,7 @@ impl Link {
     }
 
     // An end gets input n.
-    fn take(&mut self, rt: &impl Print, n: u64, turn: Turn) -> io::Result<()> {
+    fn take(&mut self, trace: &impl Trace, n: u64, turn: Turn) -> io::Result<()> {
         let Turn { role, given } = turn;
         match given {
             Given::Packet(_) => {
@@ -81,28 +81,33 @@ impl Link {
         }
         let end = self.ends.get_mut(role);
         let before = end.machine.phase;
-        input_line(rt, n, role, before, given)?;
-        end.step(rt, given)?;
-        state_line(rt, role, before, end.machine.phase)
+        trace.input(n, role, before, given)?;
+        end.step(trace, given)?;
+        trace.state(role, before, end.machine.phase)
     }
 
     // Takes inputs until there is none, at most 64: a fair run has at most 18. Returns their number.
-    fn run(&mut self, rt: &impl Print) -> io::Result<u64> {
+    fn run(&mut self, trace: &impl Trace) -> io::Result<u64> {
         // n is no index: the inputs so far, whose number each line begins with
         for n in 0..64 {
             let Some(turn) = self.next() else {
                 return Ok(n);
             };
-            self.take(rt, n + 1, turn)?;
+            self.take(trace, n + 1, turn)?;
         }
         Ok(64)
     }
 }
 
 // Plays a pairing.
-pub(crate) fn play(rt: &impl Print, arguments: Arguments) -> io::Result<()> {
-    let mut link = Link::new(arguments);
-    start(rt, &link.ends, link.is_late)?;
-    let inputs = link.run(rt)?;
-    summary(rt, &link.ends, inputs)
+pub(crate) fn play(trace: &impl Trace, pairing: Pairing) -> io::Result<()> {
+    let Pairing {
+        title,
+        records,
+        is_late,
+    } = pairing;
+    let mut link = Link::new(records, is_late);
+    trace.start(title, &link.ends, is_late)?;
+    let inputs = link.run(trace)?;
+    trace.summary(&link.ends, inputs)
 }

@@ -58,21 +58,33 @@ impl Packet {
     }
 }
 
+// A request or a response: all its octets, and what they say.
+fn write_features<W: fmt::Write>(
+    f: &mut fmt::Formatter<W>,
+    command: Command,
+    features: PairingFeatures,
+) -> fmt::Result {
+    let octets = Octets(features.encode());
+    write!(f, "{:02x}{octets}  {}", u8::from(command), Shown(features))
+}
+
 impl fmt::Display for Packet {
     fn fmt<W: fmt::Write>(&self, f: &mut fmt::Formatter<W>) -> fmt::Result {
-        let name = self.name();
+        write!(f, "{:<30}", self.name())?;
         match *self {
-            Packet::PairingRequest(features) => write!(f, "{name:<30}{}", Shown(features)),
-            Packet::Sent(packet) => write!(f, "{name:<30}{}", Shown(packet)),
+            Packet::PairingRequest(features) => write_features(f, self.command(), features),
+            Packet::Sent(packet) => write!(f, "{}", Shown(packet)),
         }
     }
 }
 
-// The payload.
+// What a packet carries.
 impl fmt::Display for Shown<host_calls::Packet> {
     fn fmt<W: fmt::Write>(&self, f: &mut fmt::Formatter<W>) -> fmt::Result {
         match self.0 {
-            host_calls::Packet::PairingResponse(features) => write!(f, "{}", Shown(features)),
+            host_calls::Packet::PairingResponse(features) => {
+                write_features(f, self.0.command(), features)
+            }
             host_calls::Packet::PairingConfirm(confirm) => {
                 write!(f, "{}", Octets(confirm.0.to_le_bytes()))
             }

@@ -3,7 +3,7 @@
 use crate::calls::last_call;
 use crate::end::{End, Given};
 use crate::hosts::Answers;
-use crate::trace::{call_line, refused_line};
+use crate::trace::Trace;
 use c_steps::StepError;
 use c_values::OctetsError;
 use entry::{Outcome, step_in_place};
@@ -42,22 +42,27 @@ impl End {
     }
 
     // A call that is listed for the first time: it counts, and the host answers it.
-    fn take_call(&mut self, rt: &impl Print, call: Call, answers: &mut Answers) -> io::Result<()> {
+    fn take_call(
+        &mut self,
+        trace: &impl Trace,
+        call: Call,
+        answers: &mut Answers,
+    ) -> io::Result<()> {
         self.called(call);
         let answer = self.host.answer(call);
         answer.write(call, answers)?;
-        call_line(rt, call, answer)
+        trace.call(call, answer)
     }
 
     // A whole step.
-    pub(crate) fn step(&mut self, rt: &impl Print, given: Given) -> io::Result<()> {
+    pub(crate) fn step(&mut self, trace: &impl Trace, given: Given) -> io::Result<()> {
         let mut answers = Answers::new();
         // the list is written anew in each turn, and has the turn's call at this index
         for index in 0..TURNS {
             match self.next_call(given, &answers, index) {
-                Ok(Some(call)) => self.take_call(rt, call, &mut answers)?,
+                Ok(Some(call)) => self.take_call(trace, call, &mut answers)?,
                 Ok(None) => return Ok(()),
-                Err(e) => return refused_line(rt, e),
+                Err(e) => return trace.refused(e),
             }
         }
         Ok(())

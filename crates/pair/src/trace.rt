@@ -1,40 +1,49 @@
-// The lines of a pairing: a numbered line for each input of a machine, and under it a line for each host call of its
-// step but packets, which have their line where they are delivered, and one for the state.
+// What is written of a pairing, and its text: a numbered line for each input of a machine, and under it a line
+// for each host call of its step but packets, which have their line where they are delivered, and one for the
+// state.
 use crate::end::{End, Given};
 use crate::ends::{Ends, end_name};
 use crate::hosts::{Answer, Host};
 use crate::packet::Packet;
 use crate::print::{Level, Octets, Shown, state_name};
+use crate::scenes::Title;
 use bond::Error;
 use c_steps::StepError;
 use host_calls::{Call, ConnectionEvent, Draw, Question};
 use machine::{Phase, Role};
 use std::{fmt, io};
 
-// An end's address and feature record.
-fn party(rt: &impl Print, role: Role, host: &Host) -> io::Result<()> {
-    let address = Shown(host.address);
-    println!(rt;
-        "{:<10}{address}  {}",
-        end_name(role),
-        Shown(host.local_features)
-    )
+// What is written of a pairing as it is played. What a trace leaves out is not written.
+pub(crate) trait Trace {
+    // Both ends, before the first input.
+    fn start(&self, title: Title, ends: &Ends<End>, is_late: bool) -> io::Result<()>;
+
+    // Input n of a machine in this phase.
+    fn input(&self, n: u64, role: Role, phase: Phase, given: Given) -> io::Result<()>;
+
+    // A host call, and the answer.
+    fn call(&self, _call: Call, _answer: Answer) -> io::Result<()> {
+        Ok(())
+    }
+
+    fn refused(&self, _e: StepError) -> io::Result<()> {
+        Ok(())
+    }
+
+    // The state before a step and after it.
+    fn state(&self, _role: Role, _before: Phase, _after: Phase) -> io::Result<()> {
+        Ok(())
+    }
+
+    // Both machines at the end, and the number of inputs.
+    fn summary(&self, _ends: &Ends<End>, _inputs: u64) -> io::Result<()> {
+        Ok(())
+    }
 }
 
-// Both ends, and the order of inputs.
-pub(crate) fn start(rt: &impl Print, ends: &Ends<End>, is_late: bool) -> io::Result<()> {
-    party(rt, Role::Central, &ends.terminal.host)?;
-    party(rt, Role::Peripheral, &ends.head.host)?;
-    let order = if is_late {
-        "late, after packets"
-    } else {
-        "at once, before packets"
-    };
-    println!(rt;
-        "Events come {order}. Octets are in hexadecimal, the least significant first, as on the air. \
-         All verdicts of the hosts are 0.\n"
-    )
-}
+// The text, which is printed.
+#[derive(Drop)]
+pub(crate) struct Text<'a, R>(pub &'a R);
 
 fn route(role: Role, given: Given) -> &'static str {
     match (given, role) {
@@ -52,22 +61,6 @@ fn is_early(phase: Phase, given: Given) -> bool {
             given,
             Given::Packet(Packet::Sent(host_calls::Packet::PairingConfirm(_)))
         )
-}
-
-// Input n of a machine in this phase.
-pub(crate) fn input_line(
-    rt: &impl Print,
-    n: u64,
-    role: Role,
-    phase: Phase,
-    given: Given,
-) -> io::Result<()> {
-    let note = if is_early(phase, given) {
-        "  (early: the passkey is still being typed; the head stores it)"
-    } else {
-        ""
-    };
-    println!(rt; "{n:>2}  {:<18}{given}{note}", route(role, given))
 }
 
 fn event_name(event: ConnectionEvent) -> &'static str {
@@ -164,44 +157,6 @@ impl fmt::Display for Shown<Call> {
     }
 }
 
-// A host call but a packet, and the answer.
-pub(crate) fn call_line(rt: &impl Print, call: Call, answer: Answer) -> io::Result<()> {
-    let kind = call.kind();
-    match call {
-        Call::SendPacket(_) => Ok(()),
-        // the one line with nothing after the name
-        Call::SendConnectionEvent(ConnectionEvent::BondLost) => {
-            println!(rt; "      0x{kind:02X} {}", call_name(call))
-        }
-        _ => println!(rt;
-            "      0x{kind:02X} {:<23}{}{answer}",
-            call_name(call),
-            Shown(call)
-        ),
-    }
-}
-
-pub(crate) fn refused_line(rt: &impl Print, e: StepError) -> io::Result<()> {
-    println!(rt; "      the step is refused by {}", u8::from(e))
-}
-
-// The state before a step and after it.
-pub(crate) fn state_line(
-    rt: &impl Print,
-    role: Role,
-    before: Phase,
-    after: Phase,
-) -> io::Result<()> {
-    let end = end_name(role);
-    let old = state_name(before);
-    let new = state_name(after);
-    if old == new {
-        println!(rt; "      {end} stays in {new}")
-    } else {
-        println!(rt; "      {end}: {old} -> {new}")
-    }
-}
-
 // What became of the pairing.
 fn verdict(terminal: Phase, head: Phase) -> &'static str {
     match (terminal, head) {
@@ -214,15 +169,84 @@ fn verdict(terminal: Phase, head: Phase) -> &'static str {
     }
 }
 
-// Both machines at the end, what encryption was called for with, and the number of inputs.
-pub(crate) fn summary(rt: &impl Print, ends: &Ends<End>, inputs: u64) -> io::Result<()> {
-    let terminal = ends.terminal.machine;
-    let head = ends.head.machine;
-    println!(rt; "\nterminal  {}", state_name(terminal.phase))?;
-    println!(rt; "head      {}", state_name(head.phase))?;
-    println!(rt; "method    {}", Shown(terminal.pairing_data.pairing_method))?;
-    println!(rt; "level     {}", Level(ends.terminal.security_level))?;
-    println!(rt; "key size  {}", ends.terminal.encryption_key_len)?;
-    println!(rt; "inputs    {inputs}")?;
-    println!(rt; "{}", verdict(terminal.phase, head.phase))
+// An end's address and feature record.
+fn party(rt: &impl Print, role: Role, host: &Host) -> io::Result<()> {
+    let address = Shown(host.address);
+    println!(rt;
+        "{:<10}{address}  {}",
+        end_name(role),
+        Shown(host.local_features)
+    )
+}
+
+impl<R: Print> Trace for Text<'_, R> {
+    fn start(&self, title: Title, ends: &Ends<End>, is_late: bool) -> io::Result<()> {
+        let rt = self.0;
+        println!(rt; "{title}")?;
+        party(rt, Role::Central, &ends.terminal.host)?;
+        party(rt, Role::Peripheral, &ends.head.host)?;
+        let order = if is_late {
+            "late, after packets"
+        } else {
+            "at once, before packets"
+        };
+        println!(rt;
+            "Events come {order}. Octets are in hexadecimal, the least significant first, as on the air. \
+             All verdicts of the hosts are 0.\n"
+        )
+    }
+
+    fn input(&self, n: u64, role: Role, phase: Phase, given: Given) -> io::Result<()> {
+        let note = if is_early(phase, given) {
+            "  (early: the passkey is still being typed; the head stores it)"
+        } else {
+            ""
+        };
+        println!(self.0; "{n:>2}  {:<18}{given}{note}", route(role, given))
+    }
+
+    fn call(&self, call: Call, answer: Answer) -> io::Result<()> {
+        let kind = call.kind();
+        match call {
+            Call::SendPacket(_) => Ok(()),
+            // the one line with nothing after the name
+            Call::SendConnectionEvent(ConnectionEvent::BondLost) => {
+                println!(self.0; "      0x{kind:02X} {}", call_name(call))
+            }
+            _ => println!(self.0;
+                "      0x{kind:02X} {:<23}{}{answer}",
+                call_name(call),
+                Shown(call)
+            ),
+        }
+    }
+
+    fn refused(&self, e: StepError) -> io::Result<()> {
+        println!(self.0; "      the step is refused by {}", u8::from(e))
+    }
+
+    fn state(&self, role: Role, before: Phase, after: Phase) -> io::Result<()> {
+        let end = end_name(role);
+        let old = state_name(before);
+        let new = state_name(after);
+        if old == new {
+            println!(self.0; "      {end} stays in {new}")
+        } else {
+            println!(self.0; "      {end}: {old} -> {new}")
+        }
+    }
+
+    // Between them the method, and the level and key size that encryption was called for with.
+    fn summary(&self, ends: &Ends<End>, inputs: u64) -> io::Result<()> {
+        let rt = self.0;
+        let terminal = ends.terminal.machine;
+        let head = ends.head.machine;
+        println!(rt; "\nterminal  {}", state_name(terminal.phase))?;
+        println!(rt; "head      {}", state_name(head.phase))?;
+        println!(rt; "method    {}", Shown(terminal.pairing_data.pairing_method))?;
+        println!(rt; "level     {}", Level(ends.terminal.security_level))?;
+        println!(rt; "key size  {}", ends.terminal.encryption_key_len)?;
+        println!(rt; "inputs    {inputs}")?;
+        println!(rt; "{}", verdict(terminal.phase, head.phase))
+    }
 }

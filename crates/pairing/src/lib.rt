@@ -18,7 +18,8 @@ use smp_types::Command;
 
 // The machine given back as it was, and counts 0.
 fn refused(machine: Machine, refusal: Refusal) -> Stepped
-    ensures { result ≡ record { outcome = outcome.Refused refusal; machine = machine; read = 0; written = 0 } }
+    ensures { result
+        ≡ record { outcome = outcome.Refused refusal; machine = machine; read = 0; written = 0 } }
 {
     Stepped {
         outcome: Outcome::Refused(refusal),
@@ -45,7 +46,8 @@ fn handle_input(
     input: Input,
     payload: &[u8],
 ) -> Result<(), Stop>
-    ensures ran { ran_entered ops.new.trace machine.new result ≡ run ops.old.answers.now (handle_input_by_role role machine.old input payload.now) ops.old.trace }
+    ensures ran { ran_entered ops.new.trace machine.new result
+        ≡ run ops.old.answers.now (handle_input_by_role role machine.old input payload.now) ops.old.trace }
     ensures answers { ops.new.answers ≡ ops.old.answers }
     ensures kept { OnErr result (machine.new ≡ machine.old) }
 {

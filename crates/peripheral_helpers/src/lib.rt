@@ -56,7 +56,12 @@ pub fn send_encryption_keys(
     pairing_data: &mut PairingData,
     named: KeyDistributionFlags,
 ) -> Result<(), Halt>
-    ensures ran { ran_data ops.new.trace pairing_data.new result ≡ run ops.old.answers.now (send_encryption_key pairing_data.old (λ ltk ediv rand. with_keys ltk ediv rand pairing_data.old) (names_encryption_key named)) ops.old.trace }
+    ensures ran { ran_data ops.new.trace pairing_data.new result
+        ≡ run ops.old.answers.now
+        (send_encryption_key pairing_data.old
+        (λ ltk ediv rand. with_keys ltk ediv rand pairing_data.old)
+        (names_encryption_key named))
+        ops.old.trace }
     ensures answers { ops.new.answers ≡ ops.old.answers }
     ensures kept { OnErr result (pairing_data.new ≡ pairing_data.old) }
 {
@@ -78,7 +83,8 @@ pub fn handle_pairing_request(
     machine: &mut Machine,
     payload: &[u8],
 ) -> Result<(), Halt>
-    ensures ran { ran_machine ops.new.trace machine.new result ≡ run ops.old.answers.now (handle_pairing_request machine.old.pairing_data payload.now) ops.old.trace }
+    ensures ran { ran_machine ops.new.trace machine.new result
+        ≡ run ops.old.answers.now (handle_pairing_request machine.old.pairing_data payload.now) ops.old.trace }
     ensures answers { ops.new.answers ≡ ops.old.answers }
 {
     // A failure to send the event does not matter. By a match of its own: with `attempt` of `handlers` the proof did not close.
@@ -179,7 +185,10 @@ fn begin_method(
     preq: [u8; 7],
     pres: [u8; 7],
 ) -> Result<(), Halt>
-    ensures ran { ran_machine ops.new.trace machine.new result ≡ run ops.old.answers.now (begin_method preq pres machine.old.pairing_data machine.old.pairing_data.pairing_method) ops.old.trace }
+    ensures ran { ran_machine ops.new.trace machine.new result
+        ≡ run ops.old.answers.now
+        (begin_method preq pres machine.old.pairing_data machine.old.pairing_data.pairing_method)
+        ops.old.trace }
     ensures answers { ops.new.answers ≡ ops.old.answers }
     ensures kept { OnErr result (machine.new ≡ machine.old) }
 {
@@ -215,7 +224,10 @@ fn begin_method(
 // Sconfirm = c1(TK, Srand, preq, pres, iat, ia, rat, ra) of a fresh Srand, which the caller keeps.
 #[tactic(auto, unfolding(protocol::specs::LegacyPeripheral::send_sconfirm))]
 pub fn send_sconfirm(ops: &mut Ops<'_>, machine: &Machine) -> Result<Nonce, Halt>
-    ensures ran { ran_nonce ops.new.trace machine.now.pairing_data machine.now.confirm_data result ≡ run ops.old.answers.now (send_sconfirm machine.now.confirm_data machine.now.pairing_data) ops.old.trace }
+    ensures ran { ran_nonce ops.new.trace machine.now.pairing_data machine.now.confirm_data result
+        ≡ run ops.old.answers.now
+        (send_sconfirm machine.now.confirm_data machine.now.pairing_data)
+        ops.old.trace }
     ensures answers { ops.new.answers ≡ ops.old.answers }
 {
     let srand = ops.draw_nonce()?;
@@ -232,7 +244,10 @@ pub fn handle_pairing_random(
     peer_confirm: Confirm,
     payload: &[u8],
 ) -> Result<(), Halt>
-    ensures ran { ran_machine ops.new.trace machine.new result ≡ run ops.old.answers.now (handle_pairing_random machine.old.confirm_data machine.old.pairing_data peer_confirm payload.now) ops.old.trace }
+    ensures ran { ran_machine ops.new.trace machine.new result
+        ≡ run ops.old.answers.now
+        (handle_pairing_random machine.old.confirm_data machine.old.pairing_data peer_confirm payload.now)
+        ops.old.trace }
     ensures answers { ops.new.answers ≡ ops.old.answers }
     ensures kept { OnErr result (machine.new ≡ machine.old) }
 {

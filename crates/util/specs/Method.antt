@@ -34,15 +34,35 @@ PERIPHERAL_DISPLAYS = PassKeyEntry Input Display
 abbrev pub BOTH_INPUT : PairingMethod
 BOTH_INPUT = PassKeyEntry Input Input
 
+-- The letters of Table 2.8 below: Just Works; Passkey Entry where the central displays and the peripheral inputs, where the
+-- peripheral displays and the central inputs, and where both input.
+abbrev pub J : PairingMethod
+J = JustWorks
+
+abbrev pub C : PairingMethod
+C = CENTRAL_DISPLAYS
+
+abbrev pub P : PairingMethod
+P = PERIPHERAL_DISPLAYS
+
+abbrev pub B : PairingMethod
+B = BOTH_INPUT
+
 -- Table 2.8. A row for each I/O capability of the responder, a column for each of the initiator, both in the order of the
--- codes: DisplayOnly, DisplayYesNo, KeyboardOnly, NoInputNoOutput, KeyboardDisplay.
+-- codes: DisplayOnly, DisplayYesNo, KeyboardOnly, NoInputNoOutput, KeyboardDisplay. J stands wherever one end has neither
+-- input nor output, and wherever no end can input a passkey.
 abbrev pub method_table : List (List PairingMethod)
 method_table =
-    (JustWorks ∷ JustWorks ∷ PERIPHERAL_DISPLAYS ∷ JustWorks ∷ PERIPHERAL_DISPLAYS ∷ [])
-    ∷ (JustWorks ∷ JustWorks ∷ PERIPHERAL_DISPLAYS ∷ JustWorks ∷ PERIPHERAL_DISPLAYS ∷ [])
-    ∷ (CENTRAL_DISPLAYS ∷ CENTRAL_DISPLAYS ∷ BOTH_INPUT ∷ JustWorks ∷ CENTRAL_DISPLAYS ∷ [])
-    ∷ (JustWorks ∷ JustWorks ∷ JustWorks ∷ JustWorks ∷ JustWorks ∷ [])
-    ∷ (CENTRAL_DISPLAYS ∷ CENTRAL_DISPLAYS ∷ PERIPHERAL_DISPLAYS ∷ JustWorks ∷ CENTRAL_DISPLAYS ∷ [])
+    -- DisplayOnly: an initiator with a keyboard inputs what it displays
+    (J ∷ J ∷ P ∷ J ∷ P ∷ [])
+    -- DisplayYesNo: the same, since its yes or no serves Secure Connections alone
+    ∷ (J ∷ J ∷ P ∷ J ∷ P ∷ [])
+    -- KeyboardOnly: it inputs what the initiator displays; where that has only a keyboard too, both input
+    ∷ (C ∷ C ∷ B ∷ J ∷ C ∷ [])
+    -- NoInputNoOutput: Just Works, whatever the initiator has
+    ∷ (J ∷ J ∷ J ∷ J ∷ J ∷ [])
+    -- KeyboardDisplay: it displays where the initiator has only a keyboard, and inputs what any other displays
+    ∷ (C ∷ C ∷ P ∷ J ∷ C ∷ [])
     ∷ []
 
 abbrev pub io_method : IoCapabilities → IoCapabilities → PairingMethod

@@ -2,14 +2,14 @@
 
 use std::io::{Read, Write};
 
-use legacy_pairing::{Input, Machine, Role, CALL_LIST};
+use legacy_pairing::{size, Input, Machine, Role};
 
 fn main() {
     let mut octets = [0; 1024];
     let count = std::io::stdin().read(&mut octets).unwrap_or(0);
     let role = if octets[0] == 0 { Role::Terminal } else { Role::Head };
     let part = |at: usize| std::array::from_fn(|i| octets[at + i]);
-    let mut list = [0; CALL_LIST];
+    let mut list = [0; size::CALL_LIST];
     if let Ok(mut machine) = Machine::new(role, &part(1), &part(8), &octets[16..22]) {
         let random: [u8; 16] = std::array::from_fn(|i| octets[32 + i]);
         let input = match octets[24] {

@@ -1,70 +1,49 @@
--- `line_reading::split_line` meets its contract. Assumes nothing.
-use Rattle.std.specs.Prelude.{None}
-use mathlib.Core.Path.{◌≡◌}
-use native.Mathlib.Omega.{arith}
+-- `line_reading::split_line` meets its contract: a line has a seventh field, fewer than six, or six. Assumes nothing.
+use Rattle.std.specs.Prelude.{Result, Ok, Err}
+use Rattle.std.specs.Result.{OnErr, MatchResult, IsOk}
+use mathlib.Core.Path.{◌≡◌, refl, sym, ap, ◌∙◌}
 use borrow.Author.Rules.{rules}
 use borrow.Author.Tests.{tests}
-use Rattle.line_reading.proofs.Splits.{none_given, one_more, fewer, six}
+use lib.ListN.{length}
+use Rattle.std.proofs.lemmas.List.{length-map}
+use Rattle.line_reading.proofs.Splits.{six, not_six, all_fields, seventh}
 use Rattle.line_reading.proofs.split_line.Goals as goal
 
-pub returns-in_err-next-2 : goal.returns-in_err-next-2
-returns-in_err-next-2 c =
-    let f = c.split-fields.ensures in
-    let w = none_given c.args.line.now _ _ c.next.ensures.steps f.rest f.done f.closure (λ x b q k. search (rules, tests)) in
-    let w1 = one_more w c.in_ok-next.was c.next.ensures.steps in
-    let e : c.from_residual-in_err-next-2.result ≡ None = search rules in
-    rw e (fewer w1 (omega arith) c.in_err-next-2.was c.next-2.ensures.steps)
+-- what holds of a result that is an error, and of one that is none
+of_error : {E Q : Type 0} (r : Result (Unit {0}) E) → (IsOk r → ⊥) → OnErr r Q → Q
+of_error (Ok x) h q = absurd (h refl)
+of_error (Err x) h q = q
 
-pub returns-in_err-next-3 : goal.returns-in_err-next-3
-returns-in_err-next-3 c =
-    let f = c.split-fields.ensures in
-    let w = none_given c.args.line.now _ _ c.next.ensures.steps f.rest f.done f.closure (λ x b q k. search (rules, tests)) in
-    let w1 = one_more w c.in_ok-next.was c.next.ensures.steps in
-    let w2 = one_more w1 c.in_ok-next-2.was c.next-2.ensures.steps in
-    let e : c.from_residual-in_err-next-3.result ≡ None = search rules in
-    rw e (fewer w2 (omega arith) c.in_err-next-3.was c.next-3.ensures.steps)
+of_value : {E P : Type 0} (Q : E → Type 0) (r : Result (Unit {0}) E) → IsOk r → MatchResult r (λ _. P) Q → P
+of_value Q (Ok y) h p = p
+of_value Q (Err y) h p = cc
 
-pub returns-in_err-next-4 : goal.returns-in_err-next-4
-returns-in_err-next-4 c =
-    let f = c.split-fields.ensures in
-    let w = none_given c.args.line.now _ _ c.next.ensures.steps f.rest f.done f.closure (λ x b q k. search (rules, tests)) in
-    let w1 = one_more w c.in_ok-next.was c.next.ensures.steps in
-    let w2 = one_more w1 c.in_ok-next-2.was c.next-2.ensures.steps in
-    let w3 = one_more w2 c.in_ok-next-3.was c.next-3.ensures.steps in
-    let e : c.from_residual-in_err-next-4.result ≡ None = search rules in
-    rw e (fewer w3 (omega arith) c.in_err-next-4.was c.next-4.ensures.steps)
+pub returns-in_err-ok : goal.returns-in_err-ok
+returns-in_err-ok c =
+    let f = c.split.ensures in
+    let e : IsOk c.extend.result → ⊥ = search rules in
+    let m = of_error c.extend.result e c.extend.ensures.one_more in
+    let n : length c.extend.new.self.items ≡ 6 = of_error c.extend.result e c.extend.ensures.full in
+    let k : length m.1 ≡ 6 = search rules in
+    rw c.from_residual.ensures
+    (seventh _ c.args.line.now c.split.result _ f.rest f.done f.closure (λ x b q j. search (rules, tests)) m.1 m.2 m.3 k (rw m.4 at m.5))
 
-pub returns-in_err-next-5 : goal.returns-in_err-next-5
-returns-in_err-next-5 c =
-    let f = c.split-fields.ensures in
-    let w = none_given c.args.line.now _ _ c.next.ensures.steps f.rest f.done f.closure (λ x b q k. search (rules, tests)) in
-    let w1 = one_more w c.in_ok-next.was c.next.ensures.steps in
-    let w2 = one_more w1 c.in_ok-next-2.was c.next-2.ensures.steps in
-    let w3 = one_more w2 c.in_ok-next-3.was c.next-3.ensures.steps in
-    let w4 = one_more w3 c.in_ok-next-4.was c.next-4.ensures.steps in
-    let e : c.from_residual-in_err-next-5.result ≡ None = search rules in
-    rw e (fewer w4 (omega arith) c.in_err-next-5.was c.next-5.ensures.steps)
-
-pub returns-in_err-next-6 : goal.returns-in_err-next-6
-returns-in_err-next-6 c =
-    let f = c.split-fields.ensures in
-    let w = none_given c.args.line.now _ _ c.next.ensures.steps f.rest f.done f.closure (λ x b q k. search (rules, tests)) in
-    let w1 = one_more w c.in_ok-next.was c.next.ensures.steps in
-    let w2 = one_more w1 c.in_ok-next-2.was c.next-2.ensures.steps in
-    let w3 = one_more w2 c.in_ok-next-3.was c.next-3.ensures.steps in
-    let w4 = one_more w3 c.in_ok-next-4.was c.next-4.ensures.steps in
-    let w5 = one_more w4 c.in_ok-next-5.was c.next-5.ensures.steps in
-    let e : c.from_residual-in_err-next-6.result ≡ None = search rules in
-    rw e (fewer w5 (omega arith) c.in_err-next-6.was c.next-6.ensures.steps)
+pub returns-in_default : goal.returns-in_default
+returns-in_default c =
+    let f = c.split.ensures in
+    let e : IsOk c.extend.result = search rules in
+    let m = c.extend.ensures.ran in
+    let d = of_value _ c.extend.result e m.4 in
+    let a = all_fields _ c.args.line.now c.split.result _ f.rest f.done f.closure (λ x b q j. search (rules, tests)) m.1 (rw m.2 at d) in
+    let n : length m.1 ≡ 6 → ⊥ = search rules in
+    not_six c.args.line.now (λ x. n (sym (length-map m.1 (λ b. b.now)) ∙ ap length a ∙ x))
 
 pub returns : goal.returns
 returns c =
-    let f = c.split-fields.ensures in
-    let w = none_given c.args.line.now _ _ c.next.ensures.steps f.rest f.done f.closure (λ x b q k. search (rules, tests)) in
-    let w1 = one_more w c.in_ok-next.was c.next.ensures.steps in
-    let w2 = one_more w1 c.in_ok-next-2.was c.next-2.ensures.steps in
-    let w3 = one_more w2 c.in_ok-next-3.was c.next-3.ensures.steps in
-    let w4 = one_more w3 c.in_ok-next-4.was c.next-4.ensures.steps in
-    let w5 = one_more w4 c.in_ok-next-5.was c.next-5.ensures.steps in
-    let w6 = one_more w5 c.in_ok-next-6.was c.next-6.ensures.steps in
-    rw c.then_some.ensures (six _ c.if-line-gt20000.false w6 _ _ c.is_none.ensures c.next-7.ensures.steps)
+    let f = c.split.ensures in
+    let e : IsOk c.extend.result = search rules in
+    let m = c.extend.ensures.ran in
+    let d = of_value _ c.extend.result e m.4 in
+    let a = all_fields _ c.args.line.now c.split.result _ f.rest f.done f.closure (λ x b q j. search (rules, tests)) m.1 (rw m.2 at d) in
+    let i : c.as_slice.result.now ≡ m.1 = search rules in
+    six c.args.line.now _ c.as_slice.result.now (search rules) (rw i a) (search rules)

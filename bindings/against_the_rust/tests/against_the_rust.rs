@@ -1,4 +1,5 @@
-//! The linked library beside the unchanged Rust of docs/src: steps at random, c1, s1 and features.
+//! The linked library beside the unchanged Rust of docs/src: steps at random and how the machine stands after
+//! each, call lists, c1, s1 and features.
 
 use std::cell::RefCell;
 use std::io::{self, Write};
@@ -6,8 +7,9 @@ use std::rc::Rc;
 
 use cases::random::Random;
 use cases::{Generator, Sink};
-use legacy_pairing::{c1, call_at, count_calls, read_features, s1, write_features};
-use legacy_pairing::{Features, Input, Machine, Outcome, Refusal, Role};
+use legacy_pairing::{c1, call_at, count_calls, read_features, refusal, s1, size, write_features};
+use legacy_pairing::{Failure, Features, Input, Machine, Outcome, Refusal, Role, Status};
+use reference::machine::{Record, BOND, BOND_PRESENT, DETAIL, PHASE, REASON};
 use reference::{lines, Step};
 
 /// Step lines are kept here.
@@ -50,8 +52,24 @@ fn input(given: &Step) -> Input<'_> {
     }
 }
 
-/// The linked library's answer to a step, in the reference's words.
-fn answer(given: &Step) -> (reference::Outcome, usize, usize, [u8; 161], Vec<u8>) {
+/// How the machine of a record stands, by the table of the machine record. Its phases are the Rust's states:
+/// `result` of legacy_central.rs and legacy_peripheral.rs is none before Success (9) and Error (10),
+/// `is_encrypted` holds from WaitingIdentitityInformation (6) to Success, and `security_level` of mod.rs is
+/// the level of the bond there.
+fn standing(m: &Record) -> Status {
+    let result = match m[PHASE] {
+        0..=8 => None,
+        9 => Some(Ok(())),
+        _ => Some(Err(Failure { kind: m[DETAIL], detail: m[REASON] })),
+    };
+    let is_encrypted = (6..=9).contains(&m[PHASE]);
+    let level = if is_encrypted && m[BOND_PRESENT] == 1 { m[BOND + 27] } else { 0 };
+    Status { result, is_encrypted, level }
+}
+
+/// The linked library's answer to a step, in the reference's words, and how it says that the machine stands
+/// then.
+fn answer(given: &Step) -> ((reference::Outcome, usize, usize, Record, Vec<u8>), Result<Status, Refusal>) {
     let role = match given.role {
         reference::Role::Central => Role::Terminal,
         reference::Role::Peripheral => Role::Head,
@@ -63,24 +81,40 @@ fn answer(given: &Step) -> (reference::Outcome, usize, usize, [u8; 161], Vec<u8>
         Ok(s) => (reference::Outcome::Wants, s.read, s.written),
         Err(Refusal(number)) => (reference::Outcome::Refused(number), 0, 0),
     };
-    (outcome, read, written, *machine.record(), list)
+    ((outcome, read, written, *machine.record(), list), machine.status())
 }
 
 #[test]
 fn steps_are_the_rusts() {
     let (mut ended, mut wants, mut refused) = (0, 0, 0);
+    // How many machines stood so after a step, by role and phase; how many had failed, by kind; levels of
+    // encrypted links; the most octets of answers that a step has read.
+    let (mut stood, mut failed, mut levels, mut most) = ([[0; 11]; 2], [0; 6], [0; 256], 0);
     for given in steps(7, 100_000) {
         let rust = reference::step(&given);
         assert_ne!(rust.panicked, Some("unknown"));
-        let ours = answer(&given);
+        let (ours, status) = answer(&given);
+        assert_eq!(status, Ok(standing(&rust.machine)), "{given:?}");
         assert_eq!(ours, (rust.outcome, rust.read, rust.written, rust.machine, rust.list), "{given:?}");
         match rust.outcome {
             reference::Outcome::Ended => ended += 1,
             reference::Outcome::Wants => wants += 1,
             reference::Outcome::Refused(_) => refused += 1,
         }
+        stood[usize::from(given.role == reference::Role::Peripheral)][usize::from(rust.machine[PHASE])] += 1;
+        if rust.machine[PHASE] == 10 {
+            failed[usize::from(rust.machine[DETAIL])] += 1;
+        }
+        if standing(&rust.machine).is_encrypted {
+            levels[usize::from(standing(&rust.machine).level)] += 1;
+        }
+        most = most.max(rust.read);
     }
     assert!(ended > 10_000 && wants > 10_000 && refused > 5_000, "{ended} ended, {wants} want, {refused} refused");
+    assert!(stood.as_flattened().iter().all(|&n| n > 500), "in the phases {stood:?}");
+    assert!(failed[1..].iter().all(|&n| n > 50), "failed by kind {failed:?}");
+    assert!(levels[..3].iter().all(|&n| n > 500) && levels[3..].iter().any(|&n| n > 0), "levels {levels:?}");
+    assert_eq!(most, size::ANSWERS, "the answers to the longest step");
 }
 
 /// What a step lists reads as its calls, end to end.
@@ -97,9 +131,10 @@ fn lists_read_as_the_calls() {
             assert_eq!((call.kind, call.body), (kind.code, *body));
             calls += 1;
         }
-        assert_eq!(call_at(list, records.len()), Err(Refusal(30)));
-        if let Some(cut) = rust.written.checked_sub(1).filter(|&cut| reference::calls::records(&list[..cut]).is_none()) {
-            assert_eq!(count_calls(&list[..cut]), Err(Refusal(6)));
+        assert_eq!(call_at(list, records.len()).err(), Some(Refusal(refusal::NO_CALL)));
+        if let Some(cut) = rust.written.checked_sub(1).filter(|&cut| reference::calls::records(&list[..cut]).is_none())
+        {
+            assert_eq!(count_calls(&list[..cut]), Err(Refusal(refusal::BAD_CALL_LIST)));
         }
     }
     assert!(calls > 20_000, "{calls} calls");
@@ -135,19 +170,20 @@ fn c1_and_s1_are_the_rusts() {
 fn features_are_read_and_written() {
     for io in 0..=255 {
         for oob in 0..=255 {
-            let given = Features { io, oob, auth_req: io ^ 0x5a, key_size: oob, initiator_keys: io, responder_keys: oob };
+            let given =
+                Features { io, oob, auth_req: io ^ 0x5a, key_size: oob, initiator_keys: io, responder_keys: oob };
             let payload = [io, oob, io ^ 0x5a, oob, io, oob];
             let right = io <= 4 && oob <= 1;
-            assert_eq!(write_features(given), if right { Ok(payload) } else { Err(Refusal(5)) });
+            assert_eq!(write_features(given), if right { Ok(payload) } else { Err(Refusal(refusal::BAD_FEATURES)) });
             let right = right && (7..=16).contains(&oob);
-            assert_eq!(read_features(&payload), if right { Ok(given) } else { Err(Refusal(5)) });
+            assert_eq!(read_features(&payload), if right { Ok(given) } else { Err(Refusal(refusal::BAD_FEATURES)) });
         }
     }
     for key_size in 0..=255 {
         let given = Features { io: 4, oob: 1, auth_req: 5, key_size, initiator_keys: 3, responder_keys: 3 };
         let payload = write_features(given).expect("any key size is written");
         let right = (7..=16).contains(&key_size);
-        assert_eq!(read_features(&payload), if right { Ok(given) } else { Err(Refusal(5)) });
-        assert_eq!(read_features(&payload[..5]), Err(Refusal(4)));
+        assert_eq!(read_features(&payload), if right { Ok(given) } else { Err(Refusal(refusal::BAD_FEATURES)) });
+        assert_eq!(read_features(&payload[..5]), Err(Refusal(refusal::FEATURES_CUT)));
     }
 }
