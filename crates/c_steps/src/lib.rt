@@ -249,7 +249,7 @@ pub struct Status {
 
 // How the machine stands whose record is given, of role 0 (terminal) or 1 (head).
 // The clause is for whatever C's caller has behind its references.
-#[tactic(auto, unfolding(crate::specs::Steps::status_on))]
+#[tactic(auto, unfolding(crate::specs::Steps::status_on, machine::specs::Machine::security_level_of))]
 pub fn machine_status(role: u8, machine: &[u8]) -> Result<Status, StepError>
     ensures { (outcome kind detail encrypted level : ℕ) → status_told result outcome kind detail encrypted level
         ≡ status_on role machine.now outcome kind detail encrypted level }
