@@ -1,11 +1,12 @@
 #!/usr/bin/env python3
-"""Which files of definitions a reader has to believe: those that the archive's contracts, demand 3 and the worked
-cases rest on, by the names of files in their text, comments apart.
+"""Which files of definitions a reader has to believe: those that the archive's contracts, demand 3, the worked cases
+and the claims of requests rest on, by the names of files in their text, comments apart.
 
   tools/believed.py      at the root of the repository
 
 Prints a line for each file of definitions, with what rests on it. A first line of such a file, or the table of
-docs/DEFINITIONS.md, that says otherwise is a finding. The last line is `believed: N, inner: N, findings: N`; exit
+docs/DEFINITIONS.md, that says otherwise is a finding. Of requests a first line speaks where nothing else rests on
+its file. The last line is `believed: N, inner: N, findings: N`; exit
 status 0 with no finding, else 1.
 """
 import glob
@@ -17,6 +18,9 @@ ROOTS = {
     "archive's contracts": sorted(glob.glob('crates/legacy_pairing/src/*.rt')),
     'demand 3': ['crates/protocol/specs/FairRuns.antt'],
     'worked cases': ['crates/cases/specs/Cases.antt'],
+}
+REQUESTS = {
+    'list of methods': ['crates/method_lines/specs/EveryPair.antt'],
 }
 PAGE = 'docs/DEFINITIONS.md'
 SPECS = sorted(f for f in glob.glob('crates/*/specs/*.antt') if os.path.basename(f) != 'Lib.antt')
@@ -47,20 +51,21 @@ def main():
     if sys.argv[1:2] in (['-h'], ['--help']):
         print(__doc__.strip())
         return 0
-    rests = {name: reached(roots) for name, roots in ROOTS.items()}
+    rests = {name: reached(roots) for name, roots in {**ROOTS, **REQUESTS}.items()}
     page = text(PAGE)
     table = '\n'.join(line for line in page.split('\n') if line.startswith('|'))
     told = re.search(r'are the (\d+) files below', page), re.search(r'The other (\d+) files of definitions', page)
     believed, findings = 0, []
     for file in SPECS:
-        on_it = [name for name in ROOTS if file in rests[name]]
+        on_it = [name for name in rests if file in rests[name]]
+        spoken = [name for name in on_it if name in ROOTS] or on_it
         first = text(file).split('\n', 1)[0].lower()
         print(f"{file}: {', '.join(on_it) or '-'}")
         if not first.startswith('-- believed:' if on_it else '-- inner:'):
             findings.append(f"{file}: its first line has to begin '-- {'Believed' if on_it else 'Inner'}:'")
         elif on_it:
-            findings += [f'{file}: its first line is wrong about {name}' for name in ROOTS
-                         if (name in first) != (name in on_it)]
+            findings += [f'{file}: its first line is wrong about {name}' for name in rests
+                         if (name in first) != (name in spoken)]
         believed += bool(on_it)
         listed = re.search(r'`(crates/%s/specs/)?%s`' % tuple(file.split('/')[1::2]), table)
         if bool(listed) != bool(on_it):

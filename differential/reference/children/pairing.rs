@@ -39,6 +39,11 @@ pub(crate) fn handle_input(role: Role, m: &Record, input: step::Input, payload: 
     out
 }
 
+/// The method that util.rs chooses for the features of a request and of a response, by the machine record's number.
+pub(crate) fn chosen_method(central: &[u8; 6], peripheral: &[u8; 6]) -> u8 {
+    number(super::util::choose_legacy_pairing_method(features(central), features(peripheral)))
+}
+
 fn read_input(input: step::Input, payload: &[u8]) -> Input<'_> {
     match input {
         step::Input::Command(code) => match Command::try_from(code) {

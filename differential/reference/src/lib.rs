@@ -52,3 +52,9 @@ pub fn c1(k: u128, r: u128, preq: &[u8; 7], pres: &[u8; 7], iat: u8, ia: &[u8; 6
 pub fn s1(k: u128, r1: u128, r2: u128) -> u128 {
     security_manager::s1(k, r1, r2)
 }
+
+/// The method that the texts' util.rs chooses for the features of a request and of a response, by the machine record's
+/// number.
+pub fn chosen_method(central: &[u8; 6], peripheral: &[u8; 6]) -> u8 {
+    security_manager::pairing::record::chosen_method(central, peripheral)
+}

@@ -1,0 +1,2 @@
+pub mod MethodLines
+pub mod EveryPair
