@@ -6,8 +6,7 @@ and the claims of requests rest on, by the names of files in their text, comment
 
 Prints a line for each file of definitions, with what rests on it. A first line of such a file, or the table of
 docs/DEFINITIONS.md, that says otherwise is a finding. Of requests a first line speaks where nothing else rests on
-its file. The last line is `believed: N, inner: N, findings: N`; exit
-status 0 with no finding, else 1.
+its file. The last line is `believed: N, inner: N, findings: N`; exit status 0 with no finding, else 1.
 """
 import glob
 import os

@@ -1,5 +1,5 @@
 -- Every pair stands on the list once, in order, with its letter. Assumes nothing.
-use mathlib.Core.Path.{◌≡◌, refl, sym, ap, subst, ◌∙◌}
+use mathlib.Core.Path.{◌≡◌, refl, sym, ap, ap₂, subst, ◌∙◌}
 use mathlib.Core.Logic.{◌⊎◌}
 use mathlib.Core.Logic.◌⊎◌.{inl, inr}
 use mathlib.Core.Bool.{Bool, true, false, cond, ◌&&◌}
@@ -12,7 +12,7 @@ use lib.Dec.{ltb}
 use lib.ListN.{length, get_or}
 use Rattle.std.specs.Prelude.{flat_map, Contains, codes}
 use Rattle.std.specs.List.Sorted.{IsStrictlyIncreasing}
-use Rattle.std.proofs.lemmas.Bool.{ltb-true, cases_order, false≢true}
+use Rattle.std.proofs.lemmas.Bool.{and_parts, ltb-true, cases_order}
 use Rattle.std.proofs.lemmas.List.{get_or-map, length-map}
 use Rattle.std.proofs.lemmas.List.Concat.{flat_map_single}
 use Rattle.std.proofs.lemmas.List.Elements.{Contains-append_left, Contains-append_right, Contains-push}
@@ -23,26 +23,22 @@ use Rattle.smp_types.specs.declared.types.PairingFeatures.{PairingFeatures}
 use Rattle.smp_types.specs.declared.types.UseOutOfBand.{UseOutOfBand}
 use Rattle.smp_types.specs.declared.types.UseOutOfBand.TheVariants.{NotPresent, Present}
 use Rattle.smp_types.specs.Capabilities.{ios, io_code}
-use Rattle.smp_types.specs.Types.{oobs, oob_code, feature_octets}
+use Rattle.smp_types.specs.Types.{oobs, oob_code}
+use Rattle.util.specs.declared.util.PairingMethod.{PairingMethod}
 use Rattle.util.specs.Method.{legacy_method}
-use Rattle.method_lines.specs.MethodLines.{Pair, features, records, pairs, digit, letter, line, lines, text}
+use Rattle.method_lines.specs.MethodLines.{Pair, auth_req, features, records, pairs, digit, digits, letter, line, lines, text}
 use Rattle.method_lines.specs.EveryPair.{number, EveryPair}
 use Rattle.method_lines.proofs.Lines.{line_of}
 
--- ---- a record on the air, and the line of two
-octets_of_record : (io : IoCapabilities) (oob : UseOutOfBand) (mitm : Bool)
-    → feature_octets (features io oob mitm) ≡ io_code io ∷ oob_code oob ∷ cond mitm 4 0 ∷ 16 ∷ 0 ∷ 0 ∷ []
-octets_of_record io oob false = refl
-octets_of_record io oob true = refl
+-- ---- the octets and the digits of a record
+auth_req_octet : (mitm : Bool) → auth_req mitm ≡ cond mitm 4 0
+auth_req_octet false = refl
+auth_req_octet true = refl
 
-line_of_records : (io io' : IoCapabilities) (oob oob' : UseOutOfBand) (mitm mitm' : Bool)
-    → line (record { terminal = features io oob mitm; head = features io' oob' mitm' })
-    ≡ map digit (io_code io ∷ oob_code oob ∷ cond mitm 1 0 ∷ io_code io' ∷ oob_code oob' ∷ cond mitm' 1 0 ∷ [])
-    ++ codes " " ++ letter (legacy_method (features io oob mitm) (features io' oob' mitm'))
-line_of_records io io' oob oob' false false = refl
-line_of_records io io' oob oob' false true = refl
-line_of_records io io' oob oob' true false = refl
-line_of_records io io' oob oob' true true = refl
+digits_of_record : (io : IoCapabilities) (oob : UseOutOfBand) (mitm : Bool)
+    → digits (features io oob mitm) ≡ map digit (io_code io ∷ oob_code oob ∷ cond mitm 1 0 ∷ [])
+digits_of_record io oob false = refl
+digits_of_record io oob true = refl
 
 -- ---- numbers in order, by a test that computes
 abbrev rising : List ℕ → Bool
@@ -50,15 +46,11 @@ rising [] = true
 rising (m ∷ []) = true
 rising (m ∷ n ∷ l) = ltb m n && rising (n ∷ l)
 
-both : (a b : Bool) → a && b ≡ true → (a ≡ true) × (b ≡ true)
-both true b e = (refl, e)
-both false b e = absurd (false≢true e)
-
 rises : (l : List ℕ) → rising l ≡ true → (k : ℕ) → suc k < length l → get_or l k 0 < get_or l (suc k) 0
 rises [] e k h = absurd (not-suc-le-zero h)
 rises (m ∷ []) e k h = absurd (not-suc-le-zero (le_of_suc-le-suc h))
-rises (m ∷ n ∷ l) e zero h = ltb-true m n (both (ltb m n) (rising (n ∷ l)) e).0
-rises (m ∷ n ∷ l) e (suc k) h = rises (n ∷ l) (both (ltb m n) (rising (n ∷ l)) e).1 k (le_of_suc-le-suc h)
+rises (m ∷ n ∷ l) e zero h = ltb-true m n (and_parts (ltb m n) (rising (n ∷ l)) e).0
+rises (m ∷ n ∷ l) e (suc k) h = rises (n ∷ l) (and_parts (ltb m n) (rising (n ∷ l)) e).1 k (le_of_suc-le-suc h)
 
 all_rise : (l : List ℕ) → rising l ≡ true → IsStrictlyIncreasing l
 all_rise l e k h = rw add-one (rises l e k (rw (← add-one k) h))
@@ -128,14 +120,16 @@ pub every_pair : EveryPair
 unfolding text legacy_method
 every_pair =
     record {
-      octets_of_record = octets_of_record;
+      octets_of_record = λ io oob mitm. ap (λ (a : ℕ). io_code io ∷ oob_code oob ∷ a ∷ 16 ∷ 0 ∷ 0 ∷ []) (auth_req_octet mitm);
       stands_once = λ io io' oob oob' mitm mitm'.
           let p : Pair = record { terminal = features io oob mitm; head = features io' oob' mitm' } in (
             pair_listed p.terminal p.head (record_listed io oob mitm) (record_listed io' oob' mitm'),
             λ i j hi hj ei ej. one_place pairs in_order p i j hi hj ei ej (cases_order i j),
           );
       in_order = in_order;
-      line_of_records = line_of_records;
+      line_of_records = λ io io' oob oob' mitm mitm'.
+          let m : PairingMethod = legacy_method (features io oob mitm) (features io' oob' mitm') in
+          ap₂ (λ (t h : List ℕ). t ++ h ++ codes " " ++ letter m) (digits_of_record io oob mitm) (digits_of_record io' oob' mitm');
       four_hundred = refl;
       line_of_pair = line_of;
       text_length = refl;
