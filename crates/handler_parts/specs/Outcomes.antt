@@ -12,6 +12,7 @@ use Rattle.protocol.specs.Handlers.{Try, ok, err, with_nonce}
 use Rattle.host_ops.specs.Run.{Ran, ended, stopped}
 use Rattle.host_ops.specs.Asked.{on_halt}
 use Rattle.host_ops.specs.declared.Halt.{Halt}
+use Rattle.host_ops.specs.declared.Halt.TheVariants as halt
 
 -- a handler without host calls: the machine that it leaves, or the Rust's Err with the pairing data by then
 abbrev pub tried : Machine → Result (Unit {0}) Error → Try Machine
@@ -26,6 +27,11 @@ halted t d h = on_halt t (λ e u. ended (err d e) u) h
 abbrev pub ran_machine : Trace → Machine → Result (Unit {0}) Halt → Ran (Try Machine)
 ran_machine t m (Ok x) = ended (ok m) t
 ran_machine t m (Err h) = halted t m.pairing_data h
+
+-- .. and all that it leaves where it goes no further: the machine given, with the pairing data by then where it fails
+abbrev pub left_by : Machine → PairingData → Halt → Machine
+left_by m d (halt.Failed e) = record { phase = m.phase; confirm_data = m.confirm_data; pairing_data = d }
+left_by m d (halt.Stop e) = m
 
 -- a part of a handler that gives a value, of these pairing data
 abbrev pub ran_try : {A : Type 0} → Trace → PairingData → Result A Halt → Ran (Try A)

@@ -2,12 +2,12 @@
 // that are sent.
 #![tactic(auto)]
 
-ghost use Rattle.std.specs.Prelude.{◌≡◌, OnErr};
+ghost use Rattle.std.specs.Prelude.{◌≡◌, IfErr, OnErr};
 ghost use Rattle.protocol.specs.Handlers.{names_encryption_key, send_encryption_key, with_keys};
 ghost use Rattle.protocol.specs.LegacyPeripheral.{confirm_value, send_sconfirm, handle_pairing_random};
 ghost use Rattle.protocol.specs.LegacyPeripheral.{responder_keys, with_mitm, new_legacy, response_features, begin_method, handle_pairing_request};
 ghost use Rattle.host_ops.specs.Run.{run};
-ghost use Rattle.handler_parts.specs.Outcomes.{ran_machine, ran_data, ran_nonce};
+ghost use Rattle.handler_parts.specs.Outcomes.{ran_machine, left_by, ran_data, ran_nonce};
 
 use bond::Error;
 use crypto::{Confirm, Nonce, c1, s1};
@@ -86,6 +86,7 @@ pub fn handle_pairing_request(
     ensures ran { ran_machine ops.new.trace machine.new result
         ≡ run ops.old.answers.now (handle_pairing_request machine.old.pairing_data payload.now) ops.old.trace }
     ensures answers { ops.new.answers ≡ ops.old.answers }
+    ensures kept { IfErr result (λ h. machine.new ≡ left_by machine.old machine.new.pairing_data h) }
 {
     // A failure to send the event does not matter. By a match of its own: with `attempt` of `handlers` the proof did not close.
     if ops.find_bond()?
@@ -103,15 +104,23 @@ pub fn handle_pairing_request(
         && ops.local_irk()?.0 != 0;
     let bonding = ops.bonding_flag()?;
     let available = ops.oob_available()?;
-    let local = machine.pairing_data.local_features;
+    let before = machine.pairing_data;
+    let local = before.local_features;
     let local_features = response_features(local, peer_features, offered, bonding, available);
     machine.pairing_data.local_features = local_features;
     machine.pairing_data.peer_features = peer_features;
     let method = choose_legacy_pairing_method(peer_features, local_features);
     machine.pairing_data.pairing_method = method;
-    ops.try_send_packet(Packet::PairingResponse(local_features))?;
     let pres = command_octets(Command::PairingResponse, local_features.encode());
-    begin_method(ops, machine, preq, pres)
+    let begun = match ops.try_send_packet(Packet::PairingResponse(local_features)) {
+        Ok(()) => begin_method(ops, machine, preq, pres),
+        Err(halt) => Err(halt),
+    };
+    // Where an answer is missing, the machine is left as it was.
+    if let Err(Halt::Stop(_)) = begun {
+        machine.pairing_data = before;
+    }
+    begun
 }
 
 // What the request names is added to what the local features name, the identity key where `identity`.
