@@ -1,23 +1,18 @@
 -- Laws of the texts that are written. Assumes nothing.
 use mathlib.Core.Path.{◌≡◌, refl, sym, ap, ◌∙◌}
 use mathlib.Core.List.{List, [], ◌∷◌, ◌++◌, append_assoc}
-use Prim.Native.Nat.{ℕ, suc, ◌-◌, ◌+◌, ◌*◌, ◌/◌, ◌%◌, ◌≤◌, ◌<◌}
+use Prim.Native.Nat.{ℕ, ◌-◌, ◌+◌, ◌*◌, ◌≤◌}
 use native.Mathlib.Omega.{arith}
 use lib.ListN.{length, take, drop, length-append}
 use Rattle.octets.specs.Octets.{write_at}
 use Rattle.octets.proofs.Parts.{first_part, written}
 use Rattle.machine_record.proofs.Pieces.{two, four}
+use Rattle.machine.specs.declared.Machine.{Machine}
 use Rattle.machine_record.specs.Record.{machine_octets}
 use Rattle.protocol.specs.declared.Stepped.{Stepped}
 use Rattle.line_reading.specs.Text.{minus}
-use Rattle.line_writing.specs.AnswerLines.{digit_text, digits_text, octets_text, head_text, rest_text, answer_text}
-use Rattle.hex.specs.Hex.{IsBytes, lower_digits, encode_with, encode_lower}
-use Rattle.std.specs.Prelude.{slice_index}
-use Rattle.std.proofs.lemmas.Bool.{agree_below_at}
-use borrow.Author.Tests.{eqb-true}
+use Rattle.line_writing.specs.AnswerLines.{digits_text, octets_text, head_text, rest_text, answer_text}
 use borrow.Rule.Slice.PartMut.{put_mid}
-use lib.Dec.{eqb}
-use mathlib.Core.Bool.{true}
 
 -- ---- octets as digits
 
@@ -49,17 +44,6 @@ unfolding octets_text
 octets_at_most [] = omega arith
 octets_at_most (x ∷ o) = let n = digits_length (x ∷ o) in omega arith
 
--- the digits are those that `hex` writes
-same_digit : (v : ℕ) → v < 16 → slice_index lower_digits v ≡ digit_text v
-same_digit v h = eqb-true (slice_index lower_digits v) (digit_text v) (agree_below_at (λ d. eqb (slice_index lower_digits d) (digit_text d)) (λ d. true) 16 v refl h)
-
-pub digits_by_hex : (o : List ℕ) → IsBytes o → encode_lower o ≡ digits_text o
-unfolding digits_text encode_with
-digits_by_hex [] h = refl
-digits_by_hex (x ∷ o) h =
-    let b : x < 256 = h 0 in
-    rw (same_digit (x / 16) (omega arith), same_digit (x % 16) (omega arith), digits_by_hex o (λ i. h (suc i)))
-
 -- a part that is lent, and comes back as w
 pub part_written : (s : List ℕ) (a e : ℕ) {q w : List ℕ} → q ≡ w → a + length w ≡ e → e ≤ length s → put_mid a (e - a) s q ≡ write_at s a w
 part_written s a e {q} {w} f n h =
@@ -81,9 +65,14 @@ five s i a e1 j p b e2 k q c e3 m r d e4 n t e e5 h =
 
 -- ---- how long an answer is
 
+pub line_length : (h : List ℕ) (m : Machine) (list : List ℕ) → length (machine_octets m) ≡ 161
+    → length (h ++ rest_text m list) ≡ length h + (324 + length (octets_text list))
+unfolding rest_text
+line_length h m list e =
+    let n = octets_length (machine_octets m) (λ f. omega arith) in
+    simp length-append (omega arith)
+
 pub answer_length_lem : (s : Stepped) (list : List ℕ) → length (machine_octets s.machine) ≡ 161
     → length (answer_text s list) ≡ length (head_text s.outcome s.read s.written) + (324 + length (octets_text list))
-unfolding answer_text rest_text
-answer_length_lem s list m =
-    let n = octets_length (machine_octets s.machine) (λ e. omega arith) in
-    simp length-append (omega arith)
+unfolding answer_text
+answer_length_lem s list m = line_length (head_text s.outcome s.read s.written) s.machine list m

@@ -38,14 +38,21 @@ octets_text (x ∷ o) = digits_text (x ∷ o)
 
 -- ---- the line
 
+-- a refusal by a number
+unfoldable pub refused_text : ℕ → List ℕ
+refused_text n = refused_word ++ decimal n
+
 unfoldable pub outcome_text : Outcome → List ℕ
 outcome_text outcome.Ended = ended_word
 outcome_text outcome.Wants = wants_word
-outcome_text (outcome.Refused r) = refused_word ++ decimal (refusal_number r)
+outcome_text (outcome.Refused r) = refused_text (refusal_number r)
 
 -- OUTCOME, READ and WRITTEN, with a space behind each
+unfoldable pub head_of : List ℕ → ℕ → ℕ → List ℕ
+head_of o read written = o ++ (space ∷ (decimal read ++ (space ∷ (decimal written ++ (space ∷ [])))))
+
 unfoldable pub head_text : Outcome → ℕ → ℕ → List ℕ
-head_text o read written = outcome_text o ++ (space ∷ (decimal read ++ (space ∷ (decimal written ++ (space ∷ [])))))
+head_text o = head_of (outcome_text o)
 
 -- MACHINE and LIST, with the space between and the line feed
 unfoldable pub rest_text : Machine → List ℕ → List ℕ
@@ -54,6 +61,10 @@ rest_text m list = octets_text (machine_octets m) ++ (space ∷ (octets_text lis
 -- what a step came to, with the list that it was lent
 unfoldable pub answer_text : Stepped → List ℕ → List ℕ
 answer_text s list = head_text s.outcome s.read s.written ++ rest_text s.machine list
+
+-- a step that is refused by this number, whichever it is
+unfoldable pub refusal_text : ℕ → ℕ → ℕ → Machine → List ℕ → List ℕ
+refusal_text n read written m list = head_of (refused_text n) read written ++ rest_text m list
 
 -- the answer to a malformed line
 unfoldable pub malformed_text : List ℕ

