@@ -1,4 +1,5 @@
 -- Octets in, octets out: what the cipher gives is 16 octets. Assumes nothing.
+use mathlib.Core.Path.{◌≡◌}
 use mathlib.Core.Bool.{Bool, true, false, cond}
 use mathlib.Core.List.{List, [], ◌∷◌, map}
 use Prim.Native.Nat.{ℕ, zero, suc, ◌+◌, ◌-◌, ◌*◌, ◌/◌, ◌%◌, ◌^◌, ◌≤◌, ◌<◌}
@@ -6,8 +7,9 @@ use native.Mathlib.Nat.{pow-suc, mod-lt, one-mul, mul-le-mul_right}
 use native.Mathlib.Omega.{arith}
 use lib.Bits.{bit_xor, xor_lt}
 use lib.Dec.{lit<, eqb}
-use lib.ListN.{get_or, drop}
+use lib.ListN.{get_or, length, drop}
 use Rattle.octets.specs.Tabulate.{tabulate}
+use Rattle.octets.proofs.Lists.{length_tabulate}
 use Rattle.octets.proofs.Octets.{Octets, octet_at, octets_append, octets_take, octets_drop}
 use Rattle.aes.specs.Gf.{xtime, affine_bit, from_bits, affine, inverse, sub_byte}
 use Rattle.aes.specs.Aes.{sub_bytes, shift_rows, add_round_key, word, xor_word, rot_word, sub_word, power, rcon, next_word, expand, key_expansion, round_key, rounds, cipher, aes128}
@@ -103,3 +105,7 @@ aes128_octets key block o =
     let w = key_expansion key in
     let s = rounds 9 w (add_round_key block (round_key 0 w)) in
     added (shift_rows (sub_bytes s)) (round_key 10 w) (shifted (sub_bytes s) (substituted s)) (round_key_octets 10 key o)
+
+pub aes128_length : (key block : List ℕ) → length (aes128 key block) ≡ 16
+unfolding aes128 cipher add_round_key
+aes128_length key block = length_tabulate _ 16

@@ -3,9 +3,11 @@ use mathlib.Core.Path.{◌≡◌, refl, sym, ap, ◌∙◌}
 use mathlib.Core.List.{List, [], ◌∷◌}
 use Prim.Native.Nat.{ℕ, zero, suc, ◌+◌, ◌≤◌, ◌<◌}
 use native.Mathlib.Nat.{add-suc, suc-add, zero-add, le_of_eq}
+use native.Mathlib.Numerals.{add-one}
 use native.Mathlib.Omega.{arith}
-use lib.ListN.{length, get_or, take, drop, replicate}
-use lib.Seq.{drop-cons, take_all, take-take, drop-drop, get_or-take, get_or-drop}
+use lib.ListN.{length, get_or, take, drop, replicate, length-append, get_or-append}
+use lib.Seq.{drop-cons, take_all, take-take, drop-drop, get_or-take, get_or-drop, get_or_at}
+use Rattle.octets.specs.Tabulate.{tabulate}
 
 -- ---- n elements of a list from place at + k on, one by one
 abbrev pub reads_from : List ℕ → ℕ → ℕ → ℕ → List ℕ
@@ -35,6 +37,20 @@ within_part m k n at s h = part_part m k n (drop at s) h ∙ ap (take m) (drop-d
 -- and one of them
 pub element_of_part : (k n at : ℕ) (s : List ℕ) → k < n → get_or (take n (drop at s)) k 0 ≡ get_or s (at + k) 0
 element_of_part k n at s h = get_or-take n (drop at s) k 0 h ∙ get_or-drop at s k 0
+
+-- ---- a list by its rule
+pub length_tabulate : (f : ℕ → ℕ) (n : ℕ) → length (tabulate f n) ≡ n
+unfolding tabulate
+length_tabulate f zero = refl
+length_tabulate f (suc n) = length-append (tabulate f n) (f n ∷ []) ∙ add-one (length (tabulate f n)) ∙ ap suc (length_tabulate f n)
+
+-- element k of k + 1 + m
+pub tabulate_at : (f : ℕ → ℕ) (m k : ℕ) → get_or (tabulate f (suc (m + k))) k 0 ≡ f k
+unfolding tabulate
+tabulate_at f zero k = rw zero-add (get_or_at (tabulate f k) (f k) [] 0 k (length_tabulate f k))
+tabulate_at f (suc m) k =
+    let s : suc m + k ≡ suc (m + k) = omega arith in
+    rw s (get_or-append (tabulate f (suc (m + k))) (f (suc (m + k)) ∷ []) 0 k (rw length_tabulate (omega arith)) ∙ tabulate_at f m k)
 
 -- ---- a list of one value
 pub drop_replicate : (m n a : ℕ) → drop m (replicate (m + n) a) ≡ replicate n a
