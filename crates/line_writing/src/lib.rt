@@ -71,7 +71,7 @@ fn digit_text(v: u8) -> u8
 }
 
 // Two digits to each octet, over all of part.
-// By hand: with the kit's `hex` a step with a long list takes half as long again.
+// By hand: with the kit's `hex` a step with a long list takes 1.5 to 1.9 times as long.
 // requires because it has no refusal: the caller lends a part of the right length.
 fn put_digits(octets: &[u8], part: &mut [u8])
     requires { length part.old ≡ 2 * length octets.now }
@@ -131,24 +131,19 @@ fn put_answer(head: &[u8], machine: &[u8; RECORD_SIZE], list: &[u8], out: &mut [
     write(out, end, b"\n");
 }
 
-// An answer line of this OUTCOME at the front of out, and how many octets it has; None where it does not fit, and nothing
-// is written. out is lent, and no buffer returned, since there is no heap.
-// requires because HEAD_SIZE has room for no longer OUTCOME.
+// An answer line with this head at the front of out, and how many octets it has; None where it does not fit, and nothing is
+// written. out is lent, and no buffer returned, since there is no heap.
 #[tactic(auto, unfolding(crate::specs::AnswerLines::rest_text), using(crate::proofs::Texts::line_length, crate::proofs::Texts::octets_at_least, crate::proofs::Texts::octets_at_most, octets::proofs::Parts::fits, octets::proofs::Parts::fits_not, octets::proofs::Parts::not_written))]
 fn write_line(
-    outcome: ArrayString<HEAD_SIZE>,
-    read: usize,
-    written: usize,
+    head: ArrayString<HEAD_SIZE>,
     machine: Machine,
     list: &[u8],
     out: &mut [u8],
 ) -> Option<usize>
-    requires { array_string_len outcome ≤ 10 }
-    ensures { TextWritten out.old (head_of outcome.bytes read written ++ rest_text machine list.now) result out.new }
+    ensures { TextWritten out.old (head.bytes ++ rest_text machine list.now) result out.new }
 {
     let machine = machine_octets(machine);
-    let text = head(outcome, read, written);
-    let head = text.as_str().as_bytes();
+    let head = head.as_str().as_bytes();
     if out.len() / 2 < list.len() {
         return None;
     }
@@ -165,14 +160,9 @@ fn write_line(
 pub fn write_answer(stepped: Stepped, list: &[u8], out: &mut [u8]) -> Option<usize>
     ensures { TextWritten out.old (answer_text stepped list.now) result out.new }
 {
-    write_line(
-        outcome_text(stepped.outcome),
-        stepped.read,
-        stepped.written,
-        stepped.machine,
-        list,
-        out,
-    )
+    let outcome = outcome_text(stepped.outcome);
+    let head = head(outcome, stepped.read, stepped.written);
+    write_line(head, stepped.machine, list, out)
 }
 
 // The answer line of a step that is refused by a number, one that no `Refusal` has too, in the same manner.
@@ -187,7 +177,8 @@ pub fn write_refusal(
 ) -> Option<usize>
     ensures { TextWritten out.old (refusal_text number read written machine list.now) result out.new }
 {
-    write_line(refused_text(number), read, written, machine, list, out)
+    let head = head(refused_text(number), read, written);
+    write_line(head, machine, list, out)
 }
 
 // The answer to a malformed line, in the same manner.
